@@ -1,0 +1,3 @@
+pub mod Computes
+pub mod Overflow
+pub mod StatusBits

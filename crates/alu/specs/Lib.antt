@@ -1,0 +1,4 @@
+pub mod Arithmetic
+pub mod Status
+pub mod Laws
+pub mod Starred

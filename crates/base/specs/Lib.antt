@@ -1,0 +1,4 @@
+pub mod Test
+pub mod Word
+pub mod Refusal
+pub mod Case

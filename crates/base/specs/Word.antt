@@ -1,0 +1,21 @@
+-- 16-bit words. A sum or a difference keeps its low 16 bits; a word access drops address bit 0.
+use Prim.Native.Nat.{ℕ, _+_, _-_, _*_, _/_, _%_}
+use mathlib.Core.Bool.{Bool}
+use lib.Dec.{eqb}
+
+-- the low 16 bits
+abbrev pub low16 : ℕ → ℕ
+low16 n = n % 65536
+
+abbrev pub sum16 : ℕ → ℕ → ℕ
+sum16 a b = low16 (a + b)
+
+abbrev pub difference16 : ℕ → ℕ → ℕ
+difference16 a b = low16 (a + (65536 - b))
+
+-- an address less its bit 0
+abbrev pub even : ℕ → ℕ
+even a = a / 2 * 2
+
+abbrev pub isEven : ℕ → Bool
+isEven a = eqb (a % 2) 0

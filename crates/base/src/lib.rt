@@ -1,0 +1,3 @@
+// What every layer shares: 16-bit words and the numbered refusals.
+pub mod refusal;
+pub mod word;

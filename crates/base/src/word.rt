@@ -1,0 +1,30 @@
+// 16-bit words: sums and differences that keep the low 16 bits, and even addresses.
+ghost use mathlib.Core.Path.{_≡_};
+ghost use Rattle.base.specs.Word.{sum16, difference16, even, isEven};
+
+// a + b, its low 16 bits.
+pub fn sum(a: u16, b: u16) -> u16
+    ensures { λ r. ⌜ r ≡ sum16 a b ⌝ }
+{
+    std::num::wrapping_add_u16(a, b)
+}
+
+// a - b, its low 16 bits.
+pub fn difference(a: u16, b: u16) -> u16
+    ensures { λ r. ⌜ r ≡ difference16 a b ⌝ }
+{
+    std::num::wrapping_sub_u16(a, b)
+}
+
+// The address less its bit 0.
+pub fn drop_bit_0(a: u16) -> u16
+    ensures { λ r. ⌜ r ≡ even a ⌝ }
+{
+    a / 2 * 2
+}
+
+pub fn is_even(a: u16) -> bool
+    ensures { λ r. ⌜ r ≡ isEven a ⌝ }
+{
+    a % 2 == 0
+}

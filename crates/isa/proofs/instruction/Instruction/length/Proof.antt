@@ -1,0 +1,15 @@
+use borrow.Author.Needs.{needs}
+use Rattle.isa.proofs.instruction.Instruction.length.Statement.{statement}
+use Rattle.isa.proofs.instruction.Instruction.length.Tie as tie
+
+kind-requires : tie.Need-kind-requires
+kind-requires c κs = search needs
+
+array-read-result : tie.Need-array-read-result
+array-read-result c = search needs
+
+returns : tie.Need-returns
+returns c = simp (c .kind .ensures .0)
+
+pub length-spec : {M : Type 1} → statement M
+length-spec = tie.close (tie.spec kind-requires array-read-result returns)

@@ -1,0 +1,146 @@
+-- Document 01's table of instruction words. Reading and writing are both defined from it.
+use Prim.Native.Nat.{ℕ, _+_, _*_, _/_, _%_}
+use mathlib.Core.Bool.{Bool, true, false, not}
+use mathlib.Core.List.{List, [], _∷_}
+use lib.Dec.{eqb}
+use Rattle.base.specs.Test.{all}
+use Rattle.isa.specs.declared.instruction.Operation.{Operation}
+use Rattle.isa.specs.declared.instruction.Operation.the-variants.{Add, Sub, Cmp, And}
+use Rattle.isa.specs.declared.instruction.Operand.the-variants.{Register, Pointed, Constant}
+use Rattle.isa.specs.declared.instruction.Instruction.{Instruction}
+use Rattle.isa.specs.declared.instruction.Instruction.the-variants.{Hlt, In, Out, Jz, Reti, Nop, Jmp, Mov, Store, Compute, Not}
+use Rattle.isa.specs.declared.table.Row.{Row}
+use Rattle.isa.specs.declared.table.Row.the-variants.{Hlt as HLT, In as IN, Out as OUT, Jz as JZ, Reti as RETI, Nop as NOP, Jmp as JMP, Mov as MOV, Load as LOAD, Store as STORE, Immediate as IMMEDIATE, Compute as COMPUTE, Not as NOT}
+use Rattle.isa.specs.declared.table.Second.{Second}
+use Rattle.isa.specs.declared.table.Second.the-variants.{Nothing as none, Exactly as exactly, Anything as anything}
+use Rattle.isa.specs.declared.table.Encoding.{Encoding}
+
+-- where a register's digit stands in a first word: second from the left, last, or nowhere
+pub data Place : Type 0 where
+  second last nowhere : Place
+
+-- a line of the table: the first word with 0 for s and d, the places of s and d, which registers may stand there, the second word
+pub record Line : Type 0 where
+  pub fixed : ℕ
+  pub s : Place
+  pub d : Place
+  pub takes : ℕ → ℕ → Bool
+  pub second : Second
+
+abbrev line : ℕ → Place → Place → (ℕ → ℕ → Bool) → Second → Line
+line f s d t w = record { fixed = f; s = s; d = d; takes = t; second = w }
+
+-- a register that may hold an address: not 0, 2, 3
+unfoldable pub pointer : ℕ → Bool
+pointer n = all (not (eqb n 0) ∷ not (eqb n 2) ∷ not (eqb n 3) ∷ [])
+
+abbrev pub anyRegisters : ℕ → ℕ → Bool
+anyRegisters s d = true
+
+-- MOV s d: d not 0, not both 3
+abbrev pub movable : ℕ → ℕ → Bool
+movable s d = all (not (eqb d 0) ∷ not (all (eqb s 3 ∷ eqb d 3 ∷ [])) ∷ [])
+
+abbrev pub sPoints : ℕ → ℕ → Bool
+sPoints s d = pointer s
+
+abbrev pub dPoints : ℕ → ℕ → Bool
+dPoints s d = pointer d
+
+-- the first word of ADD, SUB, CMP, AND with 0 for s and d
+abbrev pub operationWord : Operation → ℕ
+operationWord Add = 0x5000
+operationWord Sub = 0x8000
+operationWord Cmp = 0x9000
+operationWord And = 0xF000
+
+-- the table
+abbrev pub lineOf : Row → Line
+lineOf HLT = line 0x0001 nowhere nowhere anyRegisters none
+lineOf IN = line 0x0010 nowhere last anyRegisters none
+lineOf OUT = line 0x0020 last nowhere anyRegisters none
+lineOf JZ = line 0x0030 last nowhere anyRegisters none
+lineOf RETI = line 0x1300 nowhere nowhere anyRegisters none
+lineOf NOP = line 0x4303 nowhere nowhere anyRegisters none
+lineOf JMP = line 0x4000 second nowhere anyRegisters none
+lineOf MOV = line 0x4000 second last movable none
+lineOf LOAD = line 0x4020 second last sPoints none
+lineOf STORE = line 0x4080 second last dPoints (exactly 0x0000)
+lineOf IMMEDIATE = line 0x4030 nowhere last anyRegisters anything
+lineOf (COMPUTE o) = line (operationWord o) second last anyRegisters none
+lineOf NOT = line 0xE030 nowhere last anyRegisters (exactly 0xFFFF)
+
+abbrev pub rows : List Row
+rows =
+    HLT ∷ IN ∷ OUT ∷ JZ ∷ RETI ∷ NOP ∷ JMP ∷ MOV ∷ LOAD ∷ STORE ∷ IMMEDIATE
+    ∷ COMPUTE Add ∷ COMPUTE Sub ∷ COMPUTE Cmp ∷ COMPUTE And ∷ NOT ∷ []
+
+-- the row has a second word
+abbrev pub hasSecond : Second → Bool
+hasSecond none = false
+hasSecond (exactly u) = true
+hasSecond anything = true
+
+-- the word v may be the second
+abbrev pub secondFits : Second → ℕ → Bool
+secondFits none v = true
+secondFits (exactly u) v = eqb v u
+secondFits anything v = true
+
+-- what a digit counts at its place
+abbrev pub weight : Place → ℕ
+weight second = 256
+weight last = 1
+weight nowhere = 0
+
+-- the digit of a word at a place
+abbrev pub digitAt : Place → ℕ → ℕ
+digitAt second w = w / 256 % 16
+digitAt last w = w % 16
+digitAt nowhere w = 0
+
+-- the row's first word with the registers s and d
+unfoldable pub firstWord : Row → ℕ → ℕ → ℕ
+firstWord r s d = lineOf r .fixed + s * weight (lineOf r .s) + d * weight (lineOf r .d)
+
+-- the register digits of a first word in a row
+abbrev pub sDigit : Row → ℕ → ℕ
+sDigit r w = digitAt (lineOf r .s) w
+
+abbrev pub dDigit : Row → ℕ → ℕ
+dDigit r w = digitAt (lineOf r .d) w
+
+-- the instruction that a row has for the registers s and d and the second word w
+abbrev pub instructionOf : Row → ℕ → ℕ → ℕ → Instruction
+instructionOf HLT s d w = Hlt
+instructionOf IN s d w = In d
+instructionOf OUT s d w = Out s
+instructionOf JZ s d w = Jz s
+instructionOf RETI s d w = Reti
+instructionOf NOP s d w = Nop
+instructionOf JMP s d w = Jmp s
+instructionOf MOV s d w = Mov (Register s) d
+instructionOf LOAD s d w = Mov (Pointed s) d
+instructionOf STORE s d w = Store s d
+instructionOf IMMEDIATE s d w = Mov (Constant w) d
+instructionOf (COMPUTE o) s d w = Compute o s d
+instructionOf NOT s d w = Not d
+
+abbrev encoded : Row → ℕ → ℕ → ℕ → Encoding
+encoded r s d w = record { row = r; source = s; destination = d; word = w }
+
+-- the row, the registers and the constant of an instruction, each 0 where it has none
+abbrev pub encodingOf : Instruction → Encoding
+encodingOf Hlt = encoded HLT 0 0 0
+encodingOf (In d) = encoded IN 0 d 0
+encodingOf (Out s) = encoded OUT s 0 0
+encodingOf (Jz s) = encoded JZ s 0 0
+encodingOf Reti = encoded RETI 0 0 0
+encodingOf Nop = encoded NOP 0 0 0
+encodingOf (Jmp s) = encoded JMP s 0 0
+encodingOf (Mov (Register s) d) = encoded MOV s d 0
+encodingOf (Mov (Pointed s) d) = encoded LOAD s d 0
+encodingOf (Mov (Constant w) d) = encoded IMMEDIATE 0 d w
+encodingOf (Store s d) = encoded STORE s d 0
+encodingOf (Compute o s d) = encoded (COMPUTE o) s d 0
+encodingOf (Not d) = encoded NOT 0 d 0

@@ -1,0 +1,8 @@
+pub mod Tests
+pub mod Computes
+pub mod SpanLaws
+pub mod SectionLaws
+pub mod RuleLaws
+pub mod LayoutLaws
+pub mod PlaceLaws
+pub mod AccessLaws

@@ -1,0 +1,5 @@
+pub mod Sections
+pub mod Rules
+pub mod Access
+pub mod Laws
+pub mod Starred
