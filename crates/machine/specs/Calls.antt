@@ -1,0 +1,122 @@
+-- What callers get: the first refusal in order, with the machine and memory as they came; or the definition's result.
+use Prim.Native.Nat.{ℕ}
+use mathlib.Core.Bool.{Bool, true, false, not}
+use mathlib.Core.List.{List, [], _∷_}
+use lib.Dec.{leb, ltb, eqb}
+use lib.ListN.{length}
+use Rattle.base.specs.Test.{if_then_else_, all}
+use Rattle.base.specs.declared.refusal.Refusal.{Refusal}
+use Rattle.base.specs.declared.refusal.Refusal.the-variants.{Map, Fence, Timetable, Frame, Distance, Clock}
+use Rattle.base.specs.Refusal.{refusalNumber}
+use Rattle.layout.specs.declared.sections.Layout.{Layout}
+use Rattle.layout.specs.Rules.{accepted}
+use Rattle.machine.specs.declared.state.Time.{Time}
+use Rattle.machine.specs.declared.state.Machine.{Machine}
+use Rattle.machine.specs.declared.answer.Outcome.{Outcome}
+use Rattle.machine.specs.declared.answer.End.{End}
+use Rattle.machine.specs.declared.answer.StartAnswer.{StartAnswer}
+use Rattle.machine.specs.declared.answer.StartAnswer.the-variants.{Made as Started, Refused as NotStarted}
+use Rattle.machine.specs.declared.answer.StepAnswer.{StepAnswer}
+use Rattle.machine.specs.declared.answer.StepAnswer.the-variants.{Made as Stepped, Refused as NotStepped}
+use Rattle.machine.specs.declared.answer.RunAnswer.{RunAnswer}
+use Rattle.machine.specs.declared.answer.RunAnswer.the-variants.{Made as HasRun, Refused as NotRun}
+use Rattle.machine.specs.State.{World, world, start, framed}
+use Rattle.machine.specs.Interrupt.{Step}
+use Rattle.machine.specs.Step.{step}
+use Rattle.machine.specs.Run.{lastClock, Stop, stepOf, run}
+
+-- memory is 65,536 bytes
+abbrev pub wholeMemory : List ℕ → Bool
+wholeMemory mem = eqb (length mem) 65536
+
+-- each stamp is above the one before it and at most 2^62
+unfoldable pub risingFrom : ℕ → List ℕ → Bool
+risingFrom a [] = true
+risingFrom a (s ∷ stamps) = if all (ltb a s ∷ leb s lastClock ∷ []) then risingFrom s stamps else false
+
+-- at most 4,096 stamps, strictly rising, each 1 to 2^62
+unfoldable pub timetable : List ℕ → Bool
+timetable stamps = all (leb (length stamps) 4096 ∷ risingFrom 0 stamps ∷ [])
+
+-- a test of what a call takes, with the refusal where it fails
+pub record Test : Type 0 where
+  pub refusal : Refusal
+  pub holds : Bool
+
+abbrev test : Refusal → Bool → Test
+test r h = record { refusal = r; holds = h }
+
+-- whether a call is taken, or what refuses it
+pub data Verdict : Type 0 where
+  taken : Verdict
+  refused : Refusal → Verdict
+
+-- the first test that fails
+unfoldable pub verdict : List Test → Verdict
+verdict [] = taken
+verdict (t ∷ tests) = if t .holds then verdict tests else refused (t .refusal)
+
+-- the tests of each call, in order
+abbrev pub startTests : List ℕ → List Test
+startTests mem = test Map (wholeMemory mem) ∷ []
+
+module _ (L : Layout) (stamps : List ℕ) where
+  abbrev pub runTests : ℕ → World → List Test
+  runTests budget w =
+      test Map (wholeMemory (w .memory)) ∷ test Fence (accepted L) ∷ test Timetable (timetable stamps)
+      ∷ test Frame (framed L (w .machine)) ∷ test Distance (leb budget 1000000)
+      ∷ test Clock (leb (w .machine .time .clock) lastClock) ∷ []
+
+  abbrev pub stepTests : World → List Test
+  stepTests w =
+      test Map (wholeMemory (w .memory)) ∷ test Fence (accepted L) ∷ test Timetable (timetable stamps)
+      ∷ test Frame (framed L (w .machine)) ∷ test Clock (leb (w .machine .time .clock) lastClock) ∷ []
+
+-- what a call leaves: the machine, the memory and the answer
+pub record Called (A : Type 0) : Type 0 where
+  pub machine : Machine
+  pub memory : List ℕ
+  pub answer : A
+
+abbrev called : {A : Type 0} → Machine → List ℕ → A → Called A
+called m mem a = record { machine = m; memory = mem; answer = a }
+
+-- start takes the memory only; the machine handed back is the start state of whatever memory, also where it is refused
+unfoldable pub startCall : List ℕ → Called StartAnswer
+startCall mem = answered (verdict (startTests mem))
+  where
+    answered : Verdict → Called StartAnswer
+    answered taken = called (start mem) mem Started
+    answered (refused r) = called (start []) mem (NotStarted r)
+
+module _ (L : Layout) (stamps : List ℕ) where
+  abbrev stepAnswered : World → Verdict → Called StepAnswer
+  stepAnswered w taken =
+      let s = stepOf L stamps w in called (s .machine) (s .memory) (Stepped (s .outcome))
+  stepAnswered w (refused r) = called (w .machine) (w .memory) (NotStepped r)
+
+  -- step
+  unfoldable pub stepCall : World → Called StepAnswer
+  stepCall w = stepAnswered w (verdict (stepTests L stamps w))
+
+  abbrev runAnswered : ℕ → World → Verdict → Called RunAnswer
+  runAnswered budget w taken =
+      let s = run L stamps budget w in called (s .machine) (s .memory) (HasRun (s .end) (s .steps))
+  runAnswered budget w (refused r) = called (w .machine) (w .memory) (NotRun r)
+
+  -- run
+  unfoldable pub runCall : ℕ → World → Called RunAnswer
+  runCall budget w = runAnswered budget w (verdict (runTests L stamps budget w))
+
+-- the number of the refusal, 0 where there is none
+abbrev pub startRefusal : StartAnswer → ℕ
+startRefusal Started = 0
+startRefusal (NotStarted r) = refusalNumber r
+
+abbrev pub stepRefusal : StepAnswer → ℕ
+stepRefusal (Stepped o) = 0
+stepRefusal (NotStepped r) = refusalNumber r
+
+abbrev pub runRefusal : RunAnswer → ℕ
+runRefusal (HasRun e n) = 0
+runRefusal (NotRun r) = refusalNumber r

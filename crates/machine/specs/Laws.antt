@@ -1,0 +1,206 @@
+-- What is claimed of the machine.
+use mathlib.Core.Path.{_≡_}
+use mathlib.Core.Bool.{Bool, true, false}
+use mathlib.Core.Logic.{_⊎_}
+use mathlib.Core.List.{List, [], _∷_}
+use Prim.Native.Nat.{ℕ, _+_, _-_, _≤_, _<_}
+use lib.Dec.{leb, ltb}
+use lib.ListN.{length}
+use Rattle.base.specs.declared.refusal.Refusal.the-variants.{Distance, Clock}
+use Rattle.isa.specs.declared.instruction.Instruction.{Instruction}
+use Rattle.isa.specs.declared.instruction.Instruction.the-variants.{Reti}
+use Rattle.isa.specs.Cycles.{cyclesOf}
+use Rattle.layout.specs.declared.sections.Layout.{Layout}
+use Rattle.layout.specs.declared.access.Right.the-variants.{Execute as execute}
+use Rattle.layout.specs.Sections.{inside, outside, sameSide}
+use Rattle.layout.specs.Rules.{accepted}
+use Rattle.layout.specs.Access.{may}
+use Rattle.alu.specs.Status.{gie}
+use Rattle.machine.specs.declared.state.Stamp.{Stamp}
+use Rattle.machine.specs.declared.state.Stamp.the-variants.{Never, At}
+use Rattle.machine.specs.declared.state.Time.{Time}
+use Rattle.machine.specs.declared.state.Visit.{Visit}
+use Rattle.machine.specs.declared.state.Visit.the-variants.{Free, Held}
+use Rattle.machine.specs.declared.state.Machine.{Machine}
+use Rattle.machine.specs.declared.answer.Cause.{Cause}
+use Rattle.machine.specs.declared.answer.Cause.the-variants.{Execute, Reentry}
+use Rattle.machine.specs.declared.answer.Outcome.the-variants.{Padded, Chained, Reset, Halted}
+use Rattle.machine.specs.declared.answer.End.the-variants.{Halted as HaltedEnd, Clock as ClockEnd, Spent}
+use Rattle.machine.specs.Memory.{byteAt}
+use Rattle.machine.specs.Registers.{pc, sr}
+use Rattle.machine.specs.Time.{pass, emptied}
+use Rattle.machine.specs.State.{World, isHeld, resetAddress, start, framed}
+use Rattle.machine.specs.Judge.{faulty, acts, judge}
+use Rattle.machine.specs.Act.{registersAfter}
+use Rattle.machine.specs.Interrupt.{Step, gives, padded}
+use Rattle.machine.specs.Step.{executed, step}
+use Rattle.machine.specs.Run.{lastClock, Stop, run, moves}
+use Rattle.machine.specs.Calls.{wholeMemory, timetable, Verdict, taken, refused, verdict, runTests}
+
+-- ---- time
+
+-- passing n and then m cycles is passing n + m
+unfoldable pub PassAdds : Type 0
+PassAdds = (stamps : List ℕ) (n m : ℕ) (t : Time) → pass stamps m (pass stamps n t) ≡ pass stamps (n + m) t
+
+-- a step of a running machine adds 1 to 23 cycles
+unfoldable pub StepCycles : Type 0
+StepCycles =
+    (L : Layout) (stamps : List ℕ) (m : Machine) (mem : List ℕ) → framed L m ≡ true → m .halted ≡ false
+    → (m .time .clock + 1 ≤ step L stamps m mem .machine .time .clock)
+    × (step L stamps m mem .machine .time .clock ≤ m .time .clock + 23)
+
+-- a step of a halted machine changes nothing
+unfoldable pub HaltedStays : Type 0
+HaltedStays =
+    (L : Layout) (stamps : List ℕ) (m : Machine) (mem : List ℕ) → m .halted ≡ true → step L stamps m mem ≡ gives m mem Halted
+
+-- ---- the frame
+
+-- the start state is framed
+unfoldable pub FramedAtStart : Type 0
+FramedAtStart = (L : Layout) (mem : List ℕ) → framed L (start mem) ≡ true
+
+-- every step of an accepted machine keeps the frame
+unfoldable pub FrameKept : Type 0
+FrameKept =
+    (L : Layout) (stamps : List ℕ) (m : Machine) (mem : List ℕ) → accepted L ≡ true → framed L m ≡ true
+    → framed L (step L stamps m mem .machine) ≡ true
+
+-- memory keeps its length
+unfoldable pub LengthKept : Type 0
+LengthKept = (L : Layout) (stamps : List ℕ) (m : Machine) (mem : List ℕ) → length (step L stamps m mem .memory) ≡ length mem
+
+-- the tests that every call passes which follows another
+pub record Sound (L : Layout) (stamps : List ℕ) (w : World) : Type 0 where
+  pub memory : wholeMemory (w .memory) ≡ true
+  pub layout : accepted L ≡ true
+  pub timetable : timetable stamps ≡ true
+  pub frame : framed L (w .machine) ≡ true
+
+-- of a world that passes them, only refusals 5 and 6 can happen
+unfoldable pub OnlyDistanceOrClock : Type 0
+OnlyDistanceOrClock =
+    (L : Layout) (stamps : List ℕ) (w : World) (budget : ℕ) → Sound L stamps w
+    → (verdict (runTests L stamps budget w) ≡ taken)
+    ⊎ ((verdict (runTests L stamps budget w) ≡ refused Distance) ⊎ (verdict (runTests L stamps budget w) ≡ refused Clock))
+
+-- ---- the module
+
+-- code inside never alters GIE
+unfoldable pub GieKeptInside : Type 0
+GieKeptInside =
+    (rs mem : List ℕ) (device : ℕ) (i : Instruction) → gie (sr (registersAfter true rs device mem i)) ≡ gie (sr rs)
+
+-- where GIE is set the slot is empty
+abbrev pub Quiet : Machine → Type 0
+Quiet m = gie (sr (m .registers)) ≡ true → m .time .slot ≡ Never
+
+-- so at the start, and after every step of a quiet machine
+unfoldable pub QuietAtStart : Type 0
+QuietAtStart = (mem : List ℕ) → Quiet (start mem)
+
+unfoldable pub QuietKept : Type 0
+QuietKept =
+    (L : Layout) (stamps : List ℕ) (m : Machine) (mem : List ℕ) → framed L m ≡ true → m .halted ≡ false → Quiet m
+    → step L stamps m mem .machine .halted ≡ false → Quiet (step L stamps m mem .machine)
+
+-- the age that a padded service of a quiet machine holds is at most 5
+unfoldable pub AgeAtMostFive : Type 0
+AgeAtMostFive =
+    (L : Layout) (stamps : List ℕ) (m : Machine) (mem : List ℕ) (previous age : ℕ) → framed L m ≡ true → Quiet m
+    → step L stamps m mem .outcome ≡ Padded → step L stamps m mem .machine .visit ≡ Held previous age → age ≤ 5
+
+-- a step inside writes only code and data, a step elsewhere only outside
+unfoldable pub WritesOwnSide : Type 0
+WritesOwnSide =
+    (L : Layout) (stamps : List ℕ) (m : Machine) (mem : List ℕ) (a : ℕ) → accepted L ≡ true
+    → (inside L (pc (m .registers)) ≡ true → outside L a ≡ true → byteAt (step L stamps m mem .memory) a ≡ byteAt mem a)
+    × (inside L (pc (m .registers)) ≡ false → outside L a ≡ false → byteAt (step L stamps m mem .memory) a ≡ byteAt mem a)
+
+-- ---- the twelve-cycle law
+
+-- a request that fills the slot during an instruction inside, GIE set, reaches service 12 cycles after its stamp
+unfoldable pub TwelveInside : Type 0
+TwelveInside =
+    (L : Layout) (stamps : List ℕ) (m : Machine) (mem : List ℕ) (i : Instruction) (s : ℕ)
+    → m .halted ≡ false → inside L (pc (m .registers)) ≡ true → m .visit ≡ Free
+    → judge L (isHeld (m .visit)) (m .registers) mem (m .previous) ≡ acts i
+    → gie (sr (m .registers)) ≡ true → m .time .slot ≡ Never → executed L stamps m mem i .time .slot ≡ At s
+    → (step L stamps m mem .outcome ≡ Padded) × (step L stamps m mem .machine .time .clock ≡ s + 12)
+
+-- and one that does so in return padding
+unfoldable pub TwelveInReturn : Type 0
+TwelveInReturn =
+    (L : Layout) (stamps : List ℕ) (m : Machine) (mem : List ℕ) (previous age s : ℕ)
+    → m .halted ≡ false → framed L m ≡ true → m .visit ≡ Held previous age
+    → judge L (isHeld (m .visit)) (m .registers) mem (m .previous) ≡ acts Reti
+    → pass stamps (cyclesOf Reti) (m .time) .slot ≡ Never
+    → pass stamps age (pass stamps (cyclesOf Reti) (m .time)) .slot ≡ At s
+    → (step L stamps m mem .outcome ≡ Padded) × (step L stamps m mem .machine .time .clock ≡ s + 12)
+
+-- the time at which a padded service starts is decided by the stamp alone, not by the instruction that it broke into
+unfoldable pub PaddedByStamp : Type 0
+PaddedByStamp =
+    (L : Layout) (stamps : List ℕ) (m : Machine) (mem : List ℕ) (t : Time) (n s : ℕ)
+    → t .slot ≡ Never → n ≤ 6 → m .time ≡ pass stamps n t → m .time .slot ≡ At s
+    → padded L stamps s m mem .machine .time ≡ pass stamps 6 (emptied (pass stamps (s + 6 - t .clock) t))
+
+-- ---- the causes and the ways to serve
+
+-- a word that may not be executed is not read, nor is anything else
+unfoldable pub BarredUnread : Type 0
+BarredUnread =
+    (L : Layout) (held : Bool) (rs mem : List ℕ) (previous : ℕ) → may L previous execute (pc rs) ≡ false
+    → judge L held rs mem previous ≡ faulty Execute
+
+-- the module may not be entered again while a visit is held
+unfoldable pub NoReentry : Type 0
+NoReentry =
+    (L : Layout) (rs mem : List ℕ) (previous : ℕ) → may L previous execute (pc rs) ≡ true → inside L (pc rs) ≡ true
+    → judge L true rs mem previous ≡ faulty Reentry
+
+-- RETI while a visit is held chains if the slot is filled, whatever GIE is
+unfoldable pub ChainsWhateverGie : Type 0
+ChainsWhateverGie =
+    (L : Layout) (stamps : List ℕ) (m : Machine) (mem : List ℕ) (previous age s : ℕ)
+    → m .halted ≡ false → m .visit ≡ Held previous age
+    → judge L (isHeld (m .visit)) (m .registers) mem (m .previous) ≡ acts Reti
+    → pass stamps (cyclesOf Reti) (m .time) .slot ≡ At s
+    → step L stamps m mem .outcome ≡ Chained
+
+-- after a reset pc is the reset vector's word in the memory that the step leaves
+unfoldable pub ResetAfterStore : Type 0
+ResetAfterStore =
+    (L : Layout) (stamps : List ℕ) (m : Machine) (mem : List ℕ) (c : Cause) → step L stamps m mem .outcome ≡ Reset c
+    → pc (step L stamps m mem .machine .registers) ≡ resetAddress (step L stamps m mem .memory)
+
+-- ---- run
+
+-- the count is the number of steps made
+unfoldable pub RunCounts : Type 0
+RunCounts =
+    (L : Layout) (stamps : List ℕ) (budget : ℕ) (w : World) → run L stamps budget w .steps ≡ length (moves L stamps budget w)
+
+-- an end is said exactly when it is so: halted first, then the clock, then the budget
+pub record EndsSo (stop : Stop) (budget : ℕ) : Type 0 where
+  pub within : stop .steps ≤ budget
+  pub halted : stop .end ≡ HaltedEnd → stop .machine .halted ≡ true
+  pub clock : stop .end ≡ ClockEnd → (stop .machine .halted ≡ false) × (lastClock < stop .machine .time .clock)
+  pub spent : stop .end ≡ Spent
+      → (stop .machine .halted ≡ false) × (stop .machine .time .clock ≤ lastClock) × (stop .steps ≡ budget)
+
+unfoldable pub RunEnds : Type 0
+RunEnds = (L : Layout) (stamps : List ℕ) (budget : ℕ) (w : World) → EndsSo (run L stamps budget w) budget
+
+-- running n and then m is running n + m, where the first does not stop early
+unfoldable pub RunAdds : Type 0
+RunAdds =
+    (L : Layout) (stamps : List ℕ) (n k : ℕ) (w : World) → run L stamps n w .end ≡ Spent
+    → run L stamps (n + k) w
+    ≡ record {
+      machine = run L stamps k (record { machine = run L stamps n w .machine; memory = run L stamps n w .memory }) .machine;
+      memory = run L stamps k (record { machine = run L stamps n w .machine; memory = run L stamps n w .memory }) .memory;
+      end = run L stamps k (record { machine = run L stamps n w .machine; memory = run L stamps n w .memory }) .end;
+      steps = n + run L stamps k (record { machine = run L stamps n w .machine; memory = run L stamps n w .memory }) .steps;
+    }

@@ -1,0 +1,3 @@
+// The machine: its state, one step, many steps, and what callers get.
+pub mod answer;
+pub mod state;
