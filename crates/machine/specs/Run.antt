@@ -45,8 +45,8 @@ module _ (L : Layout) (stamps : List ℕ) where
   abbrev pub stepOf : World → Step
   stepOf w = step L stamps (w .machine) (w .memory)
 
-  -- a run that has made n steps stops here, or goes on
-  abbrev stopOr : ℕ → World → Stop → Going → Stop
+  -- a run that has made n steps stops here, or goes on to where it stops further
+  abbrev pub stopOr : ℕ → World → Stop → Going → Stop
   stopOr n w further goes = further
   stopOr n w further (stops e) = record { machine = w .machine; memory = w .memory; end = e; steps = n }
 
@@ -60,7 +60,8 @@ module _ (L : Layout) (stamps : List ℕ) where
   unfoldable pub run : ℕ → World → Stop
   run budget w = runFrom 0 budget w
 
-  abbrev noneOr : List Move → Going → List Move
+  -- no further moves where the run stops
+  abbrev pub noneOr : List Move → Going → List Move
   noneOr further goes = further
   noneOr further (stops e) = []
 
