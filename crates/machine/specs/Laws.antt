@@ -7,9 +7,12 @@ use Prim.Native.Nat.{ℕ, _+_, _-_, _≤_, _<_}
 use lib.Dec.{leb, ltb}
 use lib.ListN.{length}
 use Rattle.base.specs.declared.refusal.Refusal.the-variants.{Distance, Clock}
+use Rattle.base.specs.Test.{all}
+use Rattle.base.specs.Word.{sum16}
 use Rattle.isa.specs.declared.instruction.Instruction.{Instruction}
 use Rattle.isa.specs.declared.instruction.Instruction.the-variants.{Reti}
 use Rattle.isa.specs.Cycles.{cyclesOf}
+use Rattle.isa.specs.Words.{begun, twoWords}
 use Rattle.layout.specs.declared.sections.Layout.{Layout}
 use Rattle.layout.specs.declared.access.Right.the-variants.{Execute as execute}
 use Rattle.layout.specs.Sections.{inside, outside, sameSide}
@@ -23,18 +26,19 @@ use Rattle.machine.specs.declared.state.Visit.{Visit}
 use Rattle.machine.specs.declared.state.Visit.the-variants.{Free, Held}
 use Rattle.machine.specs.declared.state.Machine.{Machine}
 use Rattle.machine.specs.declared.answer.Cause.{Cause}
-use Rattle.machine.specs.declared.answer.Cause.the-variants.{Execute, Reentry}
-use Rattle.machine.specs.declared.answer.Outcome.the-variants.{Padded, Chained, Reset, Halted}
+use Rattle.machine.specs.declared.answer.Cause.the-variants.{Execute, Reentry, SecondSide, Inside}
+use Rattle.machine.specs.declared.answer.Outcome.{Outcome}
+use Rattle.machine.specs.declared.answer.Outcome.the-variants.{Ran, Plain, Padded, Chained, Back, Reset, Halted}
 use Rattle.machine.specs.declared.answer.End.the-variants.{Halted as HaltedEnd, Clock as ClockEnd, Spent}
-use Rattle.machine.specs.Memory.{byteAt}
+use Rattle.machine.specs.Memory.{byteAt, wordAt}
 use Rattle.machine.specs.Registers.{pc, sr}
 use Rattle.machine.specs.Time.{pass, emptied}
 use Rattle.machine.specs.State.{World, isHeld, resetAddress, start, framed}
-use Rattle.machine.specs.Judge.{faulty, acts, judge}
-use Rattle.machine.specs.Act.{registersAfter}
+use Rattle.machine.specs.Judge.{faulty, acts, privileged, judgeAct, judge}
+use Rattle.machine.specs.Act.{registersAfter, memoryAfter}
 use Rattle.machine.specs.Interrupt.{Step, gives, padded}
 use Rattle.machine.specs.Step.{executed, step}
-use Rattle.machine.specs.Run.{lastClock, Stop, run, moves}
+use Rattle.machine.specs.Run.{lastClock, Stop, worldAfter, stepOf, run, moves}
 use Rattle.machine.specs.Calls.{wholeMemory, timetable, Verdict, taken, refused, verdict, runTests}
 
 -- ---- time
@@ -160,6 +164,20 @@ NoReentry =
     (L : Layout) (rs mem : List ℕ) (previous : ℕ) → may L previous execute (pc rs) ≡ true → inside L (pc rs) ≡ true
     → judge L true rs mem previous ≡ faulty Reentry
 
+-- a second word on another side is not read, nor is anything that it would tell
+unfoldable pub SecondElsewhereUnread : Type 0
+SecondElsewhereUnread =
+    (L : Layout) (held : Bool) (rs mem : List ℕ) (previous : ℕ)
+    → may L previous execute (pc rs) ≡ true → all (inside L (pc rs) ∷ held ∷ []) ≡ false
+    → twoWords (begun (wordAt mem (pc rs))) ≡ true → sameSide L (pc rs) (sum16 (pc rs) 2) ≡ false
+    → judge L held rs mem previous ≡ faulty SecondSide
+
+-- HLT, IN and OUT inside reset by that name, whatever they would do
+unfoldable pub PrivilegedInside : Type 0
+PrivilegedInside =
+    (L : Layout) (held : Bool) (rs mem : List ℕ) (i : Instruction) → inside L (pc rs) ≡ true → privileged i ≡ true
+    → judgeAct L held rs mem i ≡ faulty Inside
+
 -- RETI while a visit is held chains if the slot is filled, whatever GIE is
 unfoldable pub ChainsWhateverGie : Type 0
 ChainsWhateverGie =
@@ -204,3 +222,60 @@ RunAdds =
       end = run L stamps k (record { machine = run L stamps n w .machine; memory = run L stamps n w .memory }) .end;
       steps = n + run L stamps k (record { machine = run L stamps n w .machine; memory = run L stamps n w .memory }) .steps;
     }
+
+-- ---- what is seen from outside
+
+-- two memories with the same outside bytes
+pub record SameOutside (L : Layout) (mem bytes : List ℕ) : Type 0 where
+  pub long : length mem ≡ length bytes
+  pub same : (a : ℕ) → outside L a ≡ true → byteAt mem a ≡ byteAt bytes a
+
+-- two worlds that are seen alike: registers, time, outside bytes, and whether a visit is held; not what is held, nor the previous
+-- address
+pub record SameView (L : Layout) (w v : World) : Type 0 where
+  pub registers : w .machine .registers ≡ v .machine .registers
+  pub time : w .machine .time ≡ v .machine .time
+  pub held : isHeld (w .machine .visit) ≡ isHeld (v .machine .visit)
+  pub halted : w .machine .halted ≡ v .machine .halted
+  pub memory : SameOutside L (w .memory) (v .memory)
+
+-- two steps that end seen alike, with the same previous address and the same outcome
+pub record SameStep (L : Layout) (a b : Step) : Type 0 where
+  pub view : SameView L (worldAfter a) (worldAfter b)
+  pub previous : a .machine .previous ≡ b .machine .previous
+  pub outcome : a .outcome ≡ b .outcome
+
+-- a RETI that resumes the module: back, or a padded service at once
+abbrev pub isResuming : Outcome → Bool
+isResuming Ran = false
+isResuming Plain = false
+isResuming Padded = true
+isResuming Chained = false
+isResuming Back = true
+isResuming (Reset c) = false
+isResuming Halted = false
+
+-- alike, or both resume the module
+pub data SeenAlike (L : Layout) (a b : Step) : Type 0 where
+  alike : SameStep L a b → SeenAlike L a b
+  resuming : isResuming (a .outcome) ≡ true → isResuming (b .outcome) ≡ true → SeenAlike L a b
+
+-- a step that begins outside is decided by what is seen from outside
+unfoldable pub OutsideLocal : Type 0
+OutsideLocal =
+    (L : Layout) (stamps : List ℕ) (w v : World) → accepted L ≡ true → framed L (w .machine) ≡ true → framed L (v .machine) ≡ true
+    → SameView L w v → outside L (pc (w .machine .registers)) ≡ true
+    → SeenAlike L (stepOf L stamps w) (stepOf L stamps v)
+
+-- an instruction inside passes only its cycles and keeps the outside bytes
+pub record Confined (L : Layout) (stamps : List ℕ) (m : Machine) (mem : List ℕ) (i : Instruction) : Type 0 where
+  pub time : executed L stamps m mem i .time ≡ pass stamps (cyclesOf i) (m .time)
+  pub memory : SameOutside L mem (memoryAfter (m .registers) mem i)
+  pub enabled : gie (sr (executed L stamps m mem i .registers)) ≡ gie (sr (m .registers))
+
+unfoldable pub InsideConfined : Type 0
+InsideConfined =
+    (L : Layout) (stamps : List ℕ) (m : Machine) (mem : List ℕ) (i : Instruction) → accepted L ≡ true
+    → inside L (pc (m .registers)) ≡ true → m .visit ≡ Free
+    → judge L (isHeld (m .visit)) (m .registers) mem (m .previous) ≡ acts i
+    → Confined L stamps m mem i
