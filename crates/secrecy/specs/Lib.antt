@@ -1,0 +1,4 @@
+pub mod Calls
+pub mod Sighting
+pub mod Visit
+pub mod Secrecy

@@ -1,0 +1,68 @@
+-- What outside code sees of a run.
+use Prim.Native.Nat.{ℕ}
+use mathlib.Core.Bool.{Bool}
+use mathlib.Core.List.{List, [], _∷_}
+use lib.Dec.{leb}
+use Rattle.base.specs.Test.{if_then_else_, all}
+use Rattle.layout.specs.declared.sections.Layout.{Layout}
+use Rattle.layout.specs.Sections.{outside}
+use Rattle.machine.specs.declared.state.Stamp.{Stamp}
+use Rattle.machine.specs.declared.state.Time.{Time}
+use Rattle.machine.specs.declared.state.Machine.{Machine}
+use Rattle.machine.specs.declared.answer.Outcome.{Outcome}
+use Rattle.machine.specs.declared.answer.Outcome.the-variants.{Ran, Plain, Padded, Chained, Back, Reset, Halted}
+use Rattle.machine.specs.Memory.{byteAt}
+use Rattle.machine.specs.Registers.{pc}
+use Rattle.machine.specs.State.{World}
+use Rattle.machine.specs.Interrupt.{Step}
+use Rattle.machine.specs.Run.{Move, worldAfter}
+
+-- clock, registers, outside bytes, slot and alarm
+pub record View : Type 0 where
+  pub clock : ℕ
+  pub registers : List ℕ
+  pub bytes : ℕ → ℕ
+  pub slot : Stamp
+  pub alarm : Stamp
+
+-- the outside bytes; 0 stands for the module's
+unfoldable pub outsideBytes : Layout → List ℕ → ℕ → ℕ
+outsideBytes L mem a = if outside L a then byteAt mem a else 0
+
+unfoldable pub viewOf : Layout → World → View
+viewOf L w =
+    record {
+      clock = w .machine .time .clock;
+      registers = w .machine .registers;
+      bytes = outsideBytes L (w .memory);
+      slot = w .machine .time .slot;
+      alarm = w .machine .time .alarm;
+    }
+
+pub data Sighting : Type 0 where
+  -- what was before the step, what is after it, and its outcome
+  seen : View → View → Outcome → Sighting
+  -- a RETI that resumes: what was before it, and no more
+  resumes : View → Sighting
+
+-- seen from outside, a padded service can only follow a resumption at once
+unfoldable pub sightingOf : View → View → Outcome → Sighting
+sightingOf before after Ran = seen before after Ran
+sightingOf before after Plain = seen before after Plain
+sightingOf before after Padded = resumes before
+sightingOf before after Chained = seen before after Chained
+sightingOf before after Back = resumes before
+sightingOf before after (Reset c) = seen before after (Reset c)
+sightingOf before after Halted = seen before after Halted
+
+-- a step that begins outside
+abbrev pub beginsOutside : Layout → Move → Bool
+beginsOutside L v = outside L (pc (v .before .machine .registers))
+
+-- one sighting for each step that begins outside, at the clock value T or below
+unfoldable pub sightings : Layout → ℕ → List Move → List Sighting
+sightings L T [] = []
+sightings L T (v ∷ vs) =
+    if all (beginsOutside L v ∷ leb (v .before .machine .time .clock) T ∷ []) then
+    sightingOf (viewOf L (v .before)) (viewOf L (worldAfter (v .after))) (v .after .outcome) ∷ sightings L T vs
+    else sightings L T vs

@@ -1,0 +1,1 @@
+// Each claim is the contract of a function with nothing to do.
