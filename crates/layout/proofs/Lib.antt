@@ -1,4 +1,3 @@
-pub mod Tests
 pub mod Computes
 pub mod SpanLaws
 pub mod SectionLaws

@@ -1,8 +1,7 @@
 use mathlib.Core.Path.{sym, _∙_}
 use borrow.Author.Needs.{needs}
-use Rattle.base.proofs.Tests.{if-true, if-false}
+use Rattle.base.proofs.Tests.{if-true, if-false, fails, holds}
 use Rattle.layout.specs.Access.{accessAnswer}
-use Rattle.layout.proofs.Tests.{fails, holds}
 use Rattle.layout.proofs.sections.Layout.access.Statement.{statement}
 use Rattle.layout.proofs.sections.Layout.access.Tie as tie
 

@@ -1,6 +1,6 @@
 use borrow.Author.Needs.{needs}
 use Rattle.layout.specs.Rules.{firstBroken, layoutFault}
-use Rattle.layout.proofs.Tests.{fails, holds}
+use Rattle.base.proofs.Tests.{fails, holds}
 use Rattle.layout.proofs.sections.Layout.fault.Statement.{statement}
 use Rattle.layout.proofs.sections.Layout.fault.Tie as tie
 
