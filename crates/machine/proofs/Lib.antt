@@ -1,3 +1,11 @@
 pub mod Computes
 pub mod JudgeLaws
 pub mod RunLaws
+pub mod ActCases
+pub mod StepCases
+pub mod Allowed
+pub mod MemoryLaws
+pub mod TouchLaws
+pub mod RegisterFrame
+pub mod TimeFrame
+pub mod FrameLaws

@@ -128,6 +128,7 @@ module _ (L : Layout) (stamps : List ℕ) where
       at-once =
           ap (λ (x : ℕ). runFrom L stamps j x w) (let p : zero + k ≡ k = omega arith in p)
           ∙ ap (λ (x : ℕ). runFrom L stamps x k w) (let p : j ≡ j + zero = omega arith in p)
+
       from-here : (g : Going)
           → runFrom L stamps j (zero + k) w ≡ runFrom L stamps (j + zero) k (reached (stopOr L stamps j w (stopAt j w Spent) g))
       from-here goes = at-once

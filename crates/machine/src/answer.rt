@@ -1,8 +1,8 @@
 // What a step and a run answer.
 ghost use mathlib.Core.Path.{_≡_};
 ghost use Rattle.machine.specs.Outcome.{causeNumber, kindLetter, endLetter};
-use base::refusal::Refusal;
 use crate::state::Machine;
+use base::refusal::Refusal;
 
 // Why a step resets the machine: the eight causes in their order.
 pub enum Cause {

@@ -2,3 +2,4 @@ pub mod Calls
 pub mod Sighting
 pub mod Visit
 pub mod Secrecy
+pub mod Duration
