@@ -1,50 +1,101 @@
--- The causes hide what they bar: neither a barred word nor a second word on another side is read. Assumes nothing.
-use mathlib.Core.Path.{_≡_, refl, sym, _∙_, ap}
-use mathlib.Core.Bool.{Bool, true, false, not}
+-- What an instruction that acts has passed: none of the eight causes holds. Assumes nothing.
+use mathlib.Core.Path.{_≡_, refl, sym, _∙_, subst}
+use mathlib.Core.Bool.{Bool, true, false}
 use mathlib.Core.List.{List, [], _∷_}
 use Prim.Native.Nat.{ℕ}
-use Rattle.base.specs.Test.{all}
-use Rattle.base.proofs.Tests.{every, if-true, if-false}
+use borrow.Author.Tests.{not-false}
+use Rattle.base.specs.Test.{if_then_else_, all}
+use Rattle.base.proofs.Tests.{cases, if-true, if-false}
+use Rattle.isa.specs.declared.instruction.Instruction.{Instruction}
 use Rattle.isa.specs.declared.read.Begun.{Begun}
 use Rattle.isa.specs.declared.read.Begun.the-variants.{Nothing, Found}
-use Rattle.isa.specs.Words.{begun, twoWords}
+use Rattle.isa.specs.declared.read.Reading.{Reading}
+use Rattle.isa.specs.declared.read.Reading.the-variants.{Decoded, Refused}
+use Rattle.isa.specs.Words.{twoWords}
 use Rattle.layout.specs.declared.sections.Layout.{Layout}
-use Rattle.layout.specs.declared.access.Right.the-variants.{Execute as execute}
-use Rattle.layout.specs.Sections.{inside, sameSide}
+use Rattle.layout.specs.declared.access.Right.the-variants.{Execute as execute, Read as read, Write as write}
+use Rattle.layout.specs.Sections.{inside}
 use Rattle.layout.specs.Access.{may}
-use Rattle.machine.specs.declared.answer.Cause.the-variants.{Execute, Reentry, SecondSide, Inside}
-use Rattle.machine.specs.Memory.{wordAt}
+use Rattle.machine.specs.declared.answer.Cause.{Cause}
 use Rattle.machine.specs.Registers.{pc}
-use Rattle.machine.specs.Judge.{Judged, faulty, judgeAct, judgeSecond, judgeFirst, judge}
-use Rattle.machine.specs.Laws.{BarredUnread, NoReentry, SecondElsewhereUnread, PrivilegedInside}
+use Rattle.machine.specs.Judge.{Judged, faulty, acts, reads, writes, allMay, privileged, isReti, judgeAct, judgeWords, judgeSecond, judgeFirst, judge}
 
-pub barred-unread : BarredUnread
-unfolding BarredUnread judge
-barred-unread L held rs mem previous h = if-true _ _ _ (ap not h)
+-- a cause that did not fault does not hold
+passes : (t : Bool) (c : Cause) (j : Judged) (i : Instruction) → (if t then faulty c else j) ≡ acts i → (t ≡ false) × (j ≡ acts i)
+unfolding if_then_else_
+passes true c j i e = (cc, cc)
+passes false c j i e = (refl, e)
 
--- where pc may be executed and is not a held module's, the first word is judged
-pub judged-first : (L : Layout) (held : Bool) (rs mem : List ℕ) (previous : ℕ) → may L previous execute (pc rs) ≡ true
-    → all (inside L (pc rs) ∷ held ∷ []) ≡ false → judge L held rs mem previous ≡ judgeFirst L held rs mem (begun (wordAt mem (pc rs)))
-unfolding judge
-judged-first L held rs mem previous h n = if-false _ _ _ (ap not h) ∙ if-false _ _ _ n
+-- and one that stands last
+passes-last : (t : Bool) (c : Cause) (j : Judged) (i : Instruction) → (if t then j else faulty c) ≡ acts i → j ≡ acts i
+unfolding if_then_else_
+passes-last true c j i e = e
+passes-last false c j i e = cc
 
-pub no-reentry : NoReentry
-unfolding NoReentry judge
-no-reentry L rs mem previous h i = if-false _ _ _ (ap not h) ∙ if-true _ _ _ (every _ (i, (refl, tt)))
+-- of two tests that do not both hold
+pub not-second : (t u : Bool) → all (t ∷ u ∷ []) ≡ false → t ≡ true → u ≡ false
+unfolding all if_then_else_
+not-second true true e h = e
+not-second true false e h = refl
+not-second false u e h = cc
 
--- a first word that begins an instruction of two words is judged by its second
-second-judged : (L : Layout) (held : Bool) (rs mem : List ℕ) (b : Begun) → twoWords b ≡ true
-    → judgeFirst L held rs mem b ≡ judgeSecond L held rs mem b
-unfolding judgeFirst twoWords
-second-judged L held rs mem Nothing h = absurd (mathlib.Core.Bool.false≢true h)
-second-judged L held rs mem (Found r s d) h = refl
+-- RETI while a visit is held
+abbrev pub resuming : Bool → Instruction → Bool
+resuming held i = all (held ∷ isReti i ∷ [])
 
-pub second-elsewhere-unread : SecondElsewhereUnread
-unfolding SecondElsewhereUnread judgeSecond
-second-elsewhere-unread L held rs mem previous h n t o =
-    judged-first L held rs mem previous h n ∙ second-judged L held rs mem (begun (wordAt mem (pc rs))) t
-    ∙ if-true _ _ _ t ∙ if-false _ _ _ o
+module _ (L : Layout) (held : Bool) (rs mem : List ℕ) where
+  act-same : (j i : Instruction) → judgeAct L held rs mem j ≡ acts i → j ≡ i
+  unfolding judgeAct
+  act-same j i e =
+      let p = passes _ _ _ _ e .1 in
+      cases (resuming held j)
+      (λ r. same (sym (if-true _ _ _ r) ∙ p))
+      (λ r. same (passes _ _ _ _ (passes _ _ _ _ (sym (if-false _ _ _ r) ∙ p) .1) .1))
+    where
+      same : acts j ≡ acts i → j ≡ i
+      same e = cc
 
-pub privileged-inside : PrivilegedInside
-unfolding PrivilegedInside judgeAct
-privileged-inside L held rs mem i h p = if-true _ _ _ (every _ (h, (p, tt)))
+  act-is : (j i : Instruction) → judgeAct L held rs mem j ≡ acts i → judgeAct L held rs mem i ≡ acts i
+  act-is j i e = subst (λ (k : Instruction). judgeAct L held rs mem k ≡ acts i) (act-same j i e) e
+
+  words-is : (r : Reading) (i : Instruction) → judgeWords L held rs mem r ≡ acts i → judgeAct L held rs mem i ≡ acts i
+  unfolding judgeWords
+  words-is (Refused x) i e = cc
+  words-is (Decoded j n) i e = act-is j i e
+
+  second-is : (b : Begun) (i : Instruction) → judgeSecond L held rs mem b ≡ acts i → judgeAct L held rs mem i ≡ acts i
+  unfolding judgeSecond
+  second-is b i e =
+      cases (twoWords b)
+      (λ t. words-is _ i (passes-last _ _ _ _ (sym (if-true _ _ _ t) ∙ e)))
+      (λ t. words-is _ i (sym (if-false _ _ _ t) ∙ e))
+
+  first-is : (b : Begun) (i : Instruction) → judgeFirst L held rs mem b ≡ acts i → judgeAct L held rs mem i ≡ acts i
+  unfolding judgeFirst
+  first-is Nothing i e = cc
+  first-is (Found r s d) i e = second-is _ i e
+
+  -- an instruction that acts may be executed, does not enter the module again, and may do what it does
+  module _ (previous : ℕ) (i : Instruction) (e : judge L held rs mem previous ≡ acts i) where
+    pub acts-executable : may L previous execute (pc rs) ≡ true
+    unfolding judge
+    acts-executable = not-false _ (passes _ _ _ _ e .0)
+
+    pub acts-unheld : inside L (pc rs) ≡ true → held ≡ false
+    unfolding judge
+    acts-unheld = not-second _ _ (passes _ _ _ _ (passes _ _ _ _ e .1) .0)
+
+    act-acts : judgeAct L held rs mem i ≡ acts i
+    unfolding judge
+    act-acts = first-is _ i (passes _ _ _ _ (passes _ _ _ _ e .1) .1)
+
+    pub acts-unprivileged : inside L (pc rs) ≡ true → privileged i ≡ false
+    unfolding judgeAct
+    acts-unprivileged = not-second _ _ (passes _ _ _ _ act-acts .0)
+
+    pub acts-touches : resuming held i ≡ false
+        → (allMay L (pc rs) read (reads rs i) ≡ true) × (allMay L (pc rs) write (writes rs i) ≡ true)
+    unfolding judgeAct
+    acts-touches r =
+        let p = passes _ _ _ _ (sym (if-false _ _ _ r) ∙ passes _ _ _ _ act-acts .1) in
+        (not-false _ (p .0), not-false _ (passes _ _ _ _ (p .1) .0))

@@ -1,5 +1,13 @@
 pub mod Computes
+pub mod InstructionLaws
+pub mod ActLaws
 pub mod JudgeLaws
+pub mod CauseLaws
+pub mod PassLaws
+pub mod StepLaws
+pub mod CycleLaws
+pub mod TwelveLaws
+pub mod QuietLaws
 pub mod RunLaws
 pub mod ActCases
 pub mod StepCases

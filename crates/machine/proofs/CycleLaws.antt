@@ -1,0 +1,66 @@
+-- A step of a running machine adds 1 to 23 cycles, and a halted machine stays as it is. Assumes nothing.
+use mathlib.Core.Path.{_≡_}
+use mathlib.Core.Bool.{true}
+use mathlib.Core.List.{List}
+use Prim.Native.Nat.{ℕ, _+_, _≤_}
+use native.Mathlib.Omega.{arith}
+use Rattle.base.proofs.Tests.{if-true, choose}
+use Rattle.isa.specs.declared.instruction.Instruction.{Instruction}
+use Rattle.layout.specs.declared.sections.Layout.{Layout}
+use Rattle.machine.specs.declared.state.Machine.{Machine}
+use Rattle.machine.specs.declared.answer.Cause.{Cause}
+use Rattle.machine.specs.Time.{pass, emptied}
+use Rattle.machine.specs.State.{framed}
+use Rattle.machine.specs.Interrupt.{Step, ageOf, reset, plain, padded, chained, back}
+use Rattle.machine.specs.Step.{step}
+use Rattle.machine.specs.Laws.{StepCycles, HaltedStays}
+use Rattle.machine.proofs.InstructionLaws.{cycles-range}
+use Rattle.machine.proofs.StepLaws.{next, Way, resets, halts, runs, serves, pads, chains, returns, padsAgain, way, next-clock}
+use Rattle.machine.proofs.QuietLaws.{held-framed}
+
+-- the step adds from least to most cycles to the clock c
+pub record Adds (least most c : ℕ) (s : Step) : Type 0 where
+  pub at-least : c + least ≤ s .machine .time .clock
+  pub at-most : s .machine .time .clock ≤ c + most
+
+-- so do a step's last cycles, from the clock b, after those that come before them
+after : {least most b c : ℕ} {s : Step} → Adds least most b s → c + 1 ≤ b + least → b + most ≤ c + 23 → Adds 1 23 c s
+after h l g = omega arith
+
+module _ (L : Layout) (stamps : List ℕ) where
+  pub reset-adds : (c : Cause) (m : Machine) (mem : List ℕ) → Adds 4 4 (m .time .clock) (reset L stamps c m mem)
+  unfolding reset emptied pass
+  reset-adds c m mem = omega arith
+
+  pub plain-adds : (m : Machine) (mem : List ℕ) → Adds 4 6 (m .time .clock) (plain L stamps m mem)
+  unfolding plain reset emptied pass
+  plain-adds m mem = choose (Adds 4 6 (m .time .clock)) _ (λ e. omega arith) (λ e. omega arith)
+
+  pub padded-adds : (s : ℕ) (m : Machine) (mem : List ℕ) → Adds 6 12 (m .time .clock) (padded L stamps s m mem)
+  unfolding padded emptied pass ageOf
+  padded-adds s m mem = omega arith
+
+  module _ (m : Machine) (mem : List ℕ) (f : framed L m ≡ true) where
+    next-range : (i : Instruction)
+        → (m .time .clock + 1 ≤ next L stamps m mem i .time .clock) × (next L stamps m mem i .time .clock ≤ m .time .clock + 5)
+    next-range i = let n = cycles-range i in omega (arith, next-clock L stamps m mem i)
+
+    way-adds : (s : Step) → Way L stamps m mem s → Adds 1 23 (m .time .clock) s
+    unfolding chained back emptied pass
+    way-adds s (resets c e) = after (reset-adds c m mem) (omega arith) (omega arith)
+    way-adds s (halts i e h) = let k = next-range i in omega arith
+    way-adds s (runs i r d) = let k = next-range i in omega arith
+    way-adds s (serves i u r o d) = let k = next-range i in after (plain-adds _ _) (omega arith) (omega arith)
+    way-adds s (pads i u r o d) = let k = next-range i in after (padded-adds u _ _) (omega arith) (omega arith)
+    way-adds s (chains p a u r d) = omega arith
+    way-adds s (returns p a r n d) = let k = held-framed L m p a f (r .holding) .0 in omega arith
+    way-adds s (padsAgain p a u r n d) =
+        let k = held-framed L m p a f (r .holding) .0 in after (padded-adds u _ mem) (omega arith) (omega arith)
+
+pub step-cycles : StepCycles
+unfolding StepCycles
+step-cycles L stamps m mem f r = let a = way-adds L stamps m mem f _ (way L stamps m mem r) in (a .at-least, a .at-most)
+
+pub halted-stays : HaltedStays
+unfolding HaltedStays step
+halted-stays L stamps m mem h = if-true _ _ _ h
