@@ -17,3 +17,12 @@ pub mod TouchLaws
 pub mod RegisterFrame
 pub mod TimeFrame
 pub mod FrameLaws
+pub mod ViewLaws
+pub mod ReadLaws
+pub mod PermittedLaws
+pub mod GieLaws
+pub mod ConfinedLaws
+pub mod Choice
+pub mod JudgedAlike
+pub mod ServedAlike
+pub mod LocalLaws

@@ -260,11 +260,11 @@ pub data SeenAlike (L : Layout) (a b : Step) : Type 0 where
   alike : SameStep L a b → SeenAlike L a b
   resuming : isResuming (a .outcome) ≡ true → isResuming (b .outcome) ≡ true → SeenAlike L a b
 
--- a step that begins outside is decided by what is seen from outside
+-- a step of a running machine that begins outside is decided by what is seen from outside
 unfoldable pub OutsideLocal : Type 0
 OutsideLocal =
     (L : Layout) (stamps : List ℕ) (w v : World) → accepted L ≡ true → framed L (w .machine) ≡ true → framed L (v .machine) ≡ true
-    → SameView L w v → outside L (pc (w .machine .registers)) ≡ true
+    → w .machine .halted ≡ false → SameView L w v → outside L (pc (w .machine .registers)) ≡ true
     → SeenAlike L (stepOf L stamps w) (stepOf L stamps v)
 
 -- an instruction inside passes only its cycles and keeps the outside bytes

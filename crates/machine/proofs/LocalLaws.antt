@@ -1,0 +1,82 @@
+-- A step that begins outside is decided by what is seen from outside, or resumes the held module. Assumes nothing.
+use mathlib.Core.Path.{_≡_, refl, sym, _∙_}
+use mathlib.Core.Bool.{Bool, true, false, true≢false}
+use mathlib.Core.List.{List}
+use Prim.Native.Nat.{ℕ}
+use Rattle.base.specs.Test.{if_then_else_}
+use Rattle.base.specs.Word.{isEven}
+use Rattle.base.proofs.Tests.{each}
+use Rattle.isa.specs.declared.instruction.Instruction.{Instruction}
+use Rattle.layout.specs.declared.sections.Layout.{Layout}
+use Rattle.layout.specs.Sections.{inside, outside}
+use Rattle.layout.specs.Rules.{accepted}
+use Rattle.layout.proofs.SectionLaws.{outside-not-inside}
+use Rattle.machine.specs.declared.state.Time.{Time}
+use Rattle.machine.specs.declared.state.Visit.{Visit}
+use Rattle.machine.specs.declared.state.Visit.the-variants.{Free, Held}
+use Rattle.machine.specs.declared.state.Machine.{Machine}
+use Rattle.machine.specs.declared.answer.Outcome.the-variants.{Ran}
+use Rattle.machine.specs.Registers.{pc}
+use Rattle.machine.specs.Time.{deviceWord}
+use Rattle.machine.specs.State.{isHeld, framed}
+use Rattle.machine.specs.Judge.{Judged, faulty, acts, reads, judge}
+use Rattle.machine.specs.Interrupt.{due}
+use Rattle.machine.specs.Step.{executed, ordinary, performed, stepJudged, step}
+use Rattle.machine.specs.Laws.{OutsideLocal, SameOutside, SameStep, SeenAlike, alike}
+use Rattle.machine.proofs.Choice.{choose-both}
+use Rattle.machine.proofs.PermittedLaws.{Permitted, permitted, free-returns, other-returns}
+use Rattle.machine.proofs.ReadLaws.{SameWords, registers-same}
+use Rattle.machine.proofs.JudgedAlike.{read-alike, stored-alike, judged-alike}
+use Rattle.machine.proofs.ServedAlike.{machineOf, given-alike, resumed-alike, reset-alike, interrupted-alike}
+
+module _ (L : Layout) (fit : accepted L ≡ true) (stamps rs : List ℕ) (t : Time) (mem bytes : List ℕ) (s : SameOutside L mem bytes)
+    (o : outside L (pc rs) ≡ true) (p q : ℕ) (saved copy : List ℕ) where
+  abbrev here : Visit → Machine
+  here v = machineOf rs t false p v saved
+
+  abbrev there : Visit → Machine
+  there u = machineOf rs t false q u copy
+
+  ordinary-alike : (v u : Visit) → isHeld v ≡ isHeld u → (i : Instruction) → SameWords mem bytes (reads rs i)
+      → SameStep L (ordinary L stamps (here v) mem i) (ordinary L stamps (there u) bytes i)
+  unfolding ordinary executed due
+  ordinary-alike v u h i e =
+      let m = stored-alike L fit rs mem bytes s o i in
+      rw (registers-same (inside L (pc rs)) rs (deviceWord t) mem bytes i e, outside-not-inside L (pc rs) o)
+      (choose-both (SameStep L) _ (λ f. given-alike L h m)
+      (λ f. interrupted-alike L stamps _ _ m fit _ _ _ _ v u h _ _ Ran _))
+
+  performed-alike : (v u : Visit) → isHeld v ≡ isHeld u → (i : Instruction) → Permitted L (isHeld v) rs i
+      → SeenAlike L (performed L stamps (here v) mem v i) (performed L stamps (there u) bytes u i)
+  unfolding performed
+  performed-alike Free Free h i k =
+      alike (ordinary-alike Free Free h i (read-alike L fit rs mem bytes s o _ (k .reading (free-returns i))))
+  performed-alike Free (Held _ _) h i k = absurd (true≢false (sym h))
+  performed-alike (Held _ _) Free h i k = absurd (true≢false h)
+  performed-alike (Held _ _) (Held _ _) h i k =
+      choose-both (SeenAlike L) _ (λ r. resumed-alike L stamps mem bytes s _ _ _ _ _ saved copy _)
+      (λ r. alike (ordinary-alike _ _ h i (read-alike L fit rs mem bytes s o _ (k .reading (other-returns true i r)))))
+
+  judged-step-alike : (v u : Visit) → isHeld v ≡ isHeld u → (j : Judged) → judge L (isHeld v) rs mem p ≡ j
+      → SeenAlike L (stepJudged L stamps (here v) mem j) (stepJudged L stamps (there u) bytes j)
+  unfolding stepJudged
+  judged-step-alike v u h (faulty c) e = alike (reset-alike L stamps mem bytes s fit c _ _ refl)
+  judged-step-alike v u h (acts i) e = performed-alike v u h i (permitted L (isHeld v) rs mem p i e)
+
+  step-alike : (v u : Visit) → isHeld v ≡ isHeld u → isEven (pc rs) ≡ true
+      → SeenAlike L (step L stamps (here v) mem) (step L stamps (there u) bytes)
+  unfolding step if_then_else_
+  step-alike v u h e =
+      rw (← h, ← judged-alike L fit rs mem bytes s o (isHeld v) e p q) (judged-step-alike v u h _ refl)
+
+-- two machines are equal where what is seen of them is, and the rest is one
+seen-equal : {rs registers : List ℕ} {t time : Time} {b halted : Bool} (p : ℕ) (v : Visit) (saved : List ℕ)
+    → rs ≡ registers → t ≡ time → b ≡ halted → machineOf rs t b p v saved ≡ machineOf registers time halted p v saved
+seen-equal p v saved e f g = cc
+
+pub outside-local : OutsideLocal
+unfolding OutsideLocal framed
+outside-local L stamps w v fit f g r s o =
+    let m : w .machine ≡ machineOf _ _ false _ _ _ = seen-equal _ _ _ refl refl r in
+    let n : v .machine ≡ machineOf _ _ false _ _ _ = seen-equal _ _ _ (sym (s .registers)) (sym (s .time)) (sym (s .halted) ∙ r) in
+    rw (m, n) (step-alike L fit stamps _ _ _ _ (s .memory) o _ _ _ _ _ _ (s .held) (each _ (each _ f .0) .0))
