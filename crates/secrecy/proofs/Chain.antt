@@ -1,0 +1,174 @@
+-- A list of calls makes a chain of steps: each is one of a running machine and begins where the last one left, and the list leaves
+-- what the chain ends with. Assumes nothing.
+use mathlib.Core.Path.{_≡_, refl, sym, _∙_, ap, subst}
+use mathlib.Core.Bool.{Bool, true, false, true≢false}
+use mathlib.Core.List.{List, [], _∷_, _++_}
+use Prim.Native.Nat.{ℕ, zero, suc, _+_, _≤_, _<_}
+use native.Mathlib.Omega.{arith}
+use lib.Dec.{leb}
+use borrow.Author.Tests.{leb-true}
+use Rattle.base.specs.Test.{if_then_else_, all}
+use Rattle.base.proofs.Tests.{cases, choose, if-true, if-false}
+use Rattle.layout.specs.declared.sections.Layout.{Layout}
+use Rattle.layout.specs.Rules.{accepted}
+use Rattle.machine.specs.declared.state.Time.{Time}
+use Rattle.machine.specs.declared.state.Machine.{Machine}
+use Rattle.machine.specs.declared.answer.End.the-variants.{Spent}
+use Rattle.machine.specs.State.{World, world}
+use Rattle.machine.specs.Interrupt.{Step}
+use Rattle.machine.specs.Run.{lastClock, Going, goes, stops, ending, Stop, Move, worldAfter, stepOf, stopOr, runFrom, run, noneOr, moves}
+use Rattle.machine.specs.Calls.{Test, Verdict, taken, refused, verdict, stepTests, runTests, stepCall, runCall}
+use Rattle.machine.specs.Laws.{HaltedStays}
+use Rattle.machine.proofs.RunLaws.{Ends, running, haltedNow, lateNow, ends}
+use Rattle.secrecy.specs.Calls.{Call, stepping, movesWhen, made, leftBy, runOf, leftByAll}
+use Rattle.secrecy.specs.Calls
+use Rattle.machine.proofs.CycleLaws.{halted-stays}
+
+-- where a list of steps ends
+unfoldable pub endOf : World → List Move → World
+endOf w [] = w
+endOf w (v ∷ vs) = endOf (worldAfter (v .after)) vs
+
+-- ---- what a verdict says of the tests
+
+-- a call that is taken passes each test
+first-holds : (t : Test) (ts : List Test) → verdict (t ∷ ts) ≡ taken → (t .holds ≡ true) × (verdict ts ≡ taken)
+unfolding verdict
+first-holds t ts e =
+    cases (t .holds) (λ h. (h, sym (if-true _ _ _ h) ∙ e)) (λ h. let z : refused (t .refusal) ≡ taken = sym (if-false _ _ _ h) ∙ e in (cc, cc))
+
+module _ (L : Layout) (stamps : List ℕ) where
+  -- a step of a world, and the world after it
+  abbrev pub moved : World → Move
+  moved w = record { before = w; after = stepOf L stamps w }
+
+  abbrev pub next : World → World
+  next w = worldAfter (stepOf L stamps w)
+
+  -- steps of a running machine, each from where the last one left
+  pub data Chain : World → List Move → Type 0 where
+    done : {w : World} → Chain w []
+    more : {w : World} {vs : List Move} → w .machine .halted ≡ false → Chain (next w) vs → Chain w (moved w ∷ vs)
+
+  append : {w : World} {vs us : List Move} → Chain w vs → Chain (endOf w vs) us → Chain w (vs ++ us)
+  unfolding endOf
+  append done d = d
+  append (more h c) d = more h (append c d)
+
+  end-append : (w : World) (vs us : List Move) → endOf w (vs ++ us) ≡ endOf (endOf w vs) us
+  unfolding endOf
+  end-append w [] us = refl
+  end-append w (v ∷ vs) us = end-append (worldAfter (v .after)) vs us
+
+  -- ---- the moves of a run
+
+  moves-chain : (left : ℕ) (w : World) → Chain w (moves L stamps left w)
+  unfolding moves
+  moves-chain zero w = done
+  moves-chain (suc left) w = go (ending (w .machine)) (ends (w .machine)) (moves-chain left (next w))
+    where
+      go : (g : Going) → Ends (w .machine) g → Chain (next w) (moves L stamps left (next w))
+          → Chain w (noneOr L stamps (moved w ∷ moves L stamps left (next w)) g)
+      go g (running h c) rest = more h rest
+      go g (haltedNow h) rest = done
+      go g (lateNow h c) rest = done
+
+  -- a run stops where its moves end
+  abbrev stopped : Stop → World
+  stopped s = world (s .machine) (s .memory)
+
+  run-ends-there : (n left : ℕ) (w : World) → stopped (runFrom L stamps n left w) ≡ endOf w (moves L stamps left w)
+  unfolding runFrom moves endOf
+  run-ends-there n zero w = go (ending (w .machine))
+    where
+      go : (g : Going) → stopped (stopOr L stamps n w (record { machine = w .machine; memory = w .memory; end = Spent; steps = n }) g) ≡ w
+      go goes = refl
+      go (stops e) = refl
+  run-ends-there n (suc left) w = go (ending (w .machine)) (run-ends-there (n + 1) left (next w))
+    where
+      go : (g : Going) → stopped (runFrom L stamps (n + 1) left (next w)) ≡ endOf (next w) (moves L stamps left (next w))
+          → stopped (stopOr L stamps n w (runFrom L stamps (n + 1) left (next w)) g)
+          ≡ endOf w (noneOr L stamps (moved w ∷ moves L stamps left (next w)) g)
+      go goes h = h
+      go (stops e) h = refl
+
+  -- ---- one call
+
+  made-chain : (w : World) (c : Call) → Chain w (made L stamps w c)
+  unfolding made
+  made-chain w stepping = go (verdict (stepTests L stamps w))
+    where
+      go : (v : Verdict) → Chain w (movesWhen v (moves L stamps 1 w))
+      go taken = moves-chain 1 w
+      go (refused r) = done
+  made-chain w (Calls.running budget) = go (verdict (runTests L stamps budget w))
+    where
+      go : (v : Verdict) → Chain w (movesWhen v (moves L stamps budget w))
+      go taken = moves-chain budget w
+      go (refused r) = done
+
+  -- no step is taken from a clock above the last
+  step-clock : (w : World) → verdict (stepTests L stamps w) ≡ taken → w .machine .time .clock ≤ lastClock
+  step-clock w e =
+      let a = first-holds _ _ e in
+      let b = first-holds _ _ (a .1) in
+      let c = first-holds _ _ (b .1) in
+      let d = first-holds _ _ (c .1) in
+      leb-true _ _ (first-holds _ _ (d .1) .0)
+
+  -- a step that is taken ends where its move does, also on a halted machine, where there is none
+  step-ends-there : (w : World) (g : Going) → Ends (w .machine) g → w .machine .time .clock ≤ lastClock
+      → next w ≡ endOf w (noneOr L stamps (moved w ∷ []) g)
+  unfolding endOf HaltedStays
+  step-ends-there w g (running h c) l = refl
+  step-ends-there w g (haltedNow h) l = ap worldAfter (halted-stays L stamps (w .machine) (w .memory) h)
+  step-ends-there w g (lateNow h c) l = absurd (omega arith)
+
+  left-end : (w : World) (c : Call) → leftBy L stamps w c ≡ endOf w (made L stamps w c)
+  unfolding leftBy made stepCall runCall run moves
+  left-end w stepping = go (verdict (stepTests L stamps w)) refl
+    where
+      go : (v : Verdict) → verdict (stepTests L stamps w) ≡ v → leftBy L stamps w stepping ≡ endOf w (made L stamps w stepping)
+      go taken e = rw e (step-ends-there w (ending (w .machine)) (ends (w .machine)) (step-clock w e))
+      go (refused r) e = rw e (unfold endOf in refl)
+  left-end w (Calls.running budget) = go (verdict (runTests L stamps budget w)) refl
+    where
+      go : (v : Verdict) → verdict (runTests L stamps budget w) ≡ v
+          → leftBy L stamps w (Calls.running budget) ≡ endOf w (made L stamps w (Calls.running budget))
+      go taken e = rw e (run-ends-there 0 budget w)
+      go (refused r) e = rw e (unfold endOf in refl)
+
+  -- ---- a list of calls
+
+  pub run-chain : (w : World) (calls : List Call) → Chain w (runOf L stamps w calls)
+  unfolding runOf
+  run-chain w [] = done
+  run-chain w (c ∷ calls) = append (made-chain w c) (subst (λ (u : World). Chain u (runOf L stamps (leftBy L stamps w c) calls)) (left-end w c) (run-chain (leftBy L stamps w c) calls))
+
+  pub left-by-all : (w : World) (calls : List Call) → leftByAll L stamps w calls ≡ endOf w (runOf L stamps w calls)
+  unfolding runOf leftByAll
+  left-by-all w [] = unfold endOf in refl
+  left-by-all w (c ∷ calls) =
+      left-by-all (leftBy L stamps w c) calls ∙ ap (λ (u : World). endOf u (runOf L stamps (leftBy L stamps w c) calls)) (left-end w c)
+      ∙ sym (end-append w (made L stamps w c) (runOf L stamps (leftBy L stamps w c) calls))
+
+  -- ---- a layout that is not accepted: every call is refused
+
+  module _ (n : accepted L ≡ false) where
+    none-made : (w : World) (c : Call) → made L stamps w c ≡ []
+    unfolding made
+    none-made w stepping = go (verdict (stepTests L stamps w)) refl
+      where
+        go : (v : Verdict) → verdict (stepTests L stamps w) ≡ v → made L stamps w stepping ≡ []
+        go taken e = absurd (true≢false (sym (first-holds _ _ (first-holds _ _ e .1) .0) ∙ n))
+        go (refused r) e = rw e
+    none-made w (Calls.running budget) = go (verdict (runTests L stamps budget w)) refl
+      where
+        go : (v : Verdict) → verdict (runTests L stamps budget w) ≡ v → made L stamps w (Calls.running budget) ≡ []
+        go taken e = absurd (true≢false (sym (first-holds _ _ (first-holds _ _ e .1) .0) ∙ n))
+        go (refused r) e = rw e
+
+    pub none-run : (w : World) (calls : List Call) → runOf L stamps w calls ≡ []
+    unfolding runOf
+    none-run w [] = refl
+    none-run w (c ∷ calls) = rw (none-made w c) (none-run (leftBy L stamps w c) calls)
