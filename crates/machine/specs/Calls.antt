@@ -81,16 +81,16 @@ pub record Called (A : Type 0) : Type 0 where
 abbrev called : {A : Type 0} → Machine → List ℕ → A → Called A
 called m mem a = record { machine = m; memory = mem; answer = a }
 
--- start takes the memory only; the machine handed back is the start state of whatever memory, also where it is refused
+abbrev pub startAnswered : List ℕ → Verdict → Called StartAnswer
+startAnswered mem taken = called (start mem) mem Started
+startAnswered mem (refused r) = called (start []) mem (NotStarted r)
+
+-- start takes the memory only; where it is refused, the machine handed back is the start state of an empty memory
 unfoldable pub startCall : List ℕ → Called StartAnswer
-startCall mem = answered (verdict (startTests mem))
-  where
-    answered : Verdict → Called StartAnswer
-    answered taken = called (start mem) mem Started
-    answered (refused r) = called (start []) mem (NotStarted r)
+startCall mem = startAnswered mem (verdict (startTests mem))
 
 module _ (L : Layout) (stamps : List ℕ) where
-  abbrev stepAnswered : World → Verdict → Called StepAnswer
+  abbrev pub stepAnswered : World → Verdict → Called StepAnswer
   stepAnswered w taken =
       let s = stepOf L stamps w in called (s .machine) (s .memory) (Stepped (s .outcome))
   stepAnswered w (refused r) = called (w .machine) (w .memory) (NotStepped r)
@@ -99,7 +99,7 @@ module _ (L : Layout) (stamps : List ℕ) where
   unfoldable pub stepCall : World → Called StepAnswer
   stepCall w = stepAnswered w (verdict (stepTests L stamps w))
 
-  abbrev runAnswered : ℕ → World → Verdict → Called RunAnswer
+  abbrev pub runAnswered : ℕ → World → Verdict → Called RunAnswer
   runAnswered budget w taken =
       let s = run L stamps budget w in called (s .machine) (s .memory) (HasRun (s .end) (s .steps))
   runAnswered budget w (refused r) = called (w .machine) (w .memory) (NotRun r)

@@ -1,3 +1,4 @@
 pub mod Chain
 pub mod Ways
 pub mod Visiting
+pub mod Lasting

@@ -179,7 +179,7 @@ neither Data o c = refl
 
 module _ (L : Layout) (fit : accepted L ≡ true) (stamps : List ℕ) (m : Machine) (mem : List ℕ) where
   -- in code or data only code
-  acting-inside : (i : Instruction) → outside L (pc (m .registers)) ≡ false → judged L m mem ≡ acts i
+  pub acting-inside : (i : Instruction) → outside L (pc (m .registers)) ≡ false → judged L m mem ≡ acts i
       → inside L (pc (m .registers)) ≡ true
   unfolding inside outside
   acting-inside i o e =
