@@ -16,13 +16,15 @@ use Rattle.layout.specs.Sections.{entry, inside, outside}
 use Rattle.layout.specs.Rules.{accepted}
 use Rattle.layout.proofs.LayoutLaws.{entry-section}
 use Rattle.layout.proofs.SectionLaws.{section-inside, inside-not-outside}
+use Rattle.alu.specs.Status.{gie}
+use Rattle.machine.specs.declared.state.Stamp.the-variants.{Never, At}
 use Rattle.machine.specs.declared.state.Time.{Time}
 use Rattle.machine.specs.declared.state.Visit.{Visit as HeldVisit}
 use Rattle.machine.specs.declared.state.Visit.the-variants.{Free, Held}
 use Rattle.machine.specs.declared.state.Machine.{Machine}
 use Rattle.machine.specs.declared.answer.Outcome.{Outcome}
 use Rattle.machine.specs.declared.answer.Outcome.the-variants.{Ran, Plain, Padded, Chained, Back, Reset, Halted}
-use Rattle.machine.specs.Registers.{pc}
+use Rattle.machine.specs.Registers.{pc, sr}
 use Rattle.machine.specs.Outcome.{isReset}
 use Rattle.machine.specs.Time.{pass, emptied}
 use Rattle.machine.specs.State.{World, isHeld}
@@ -31,6 +33,9 @@ use Rattle.machine.specs.Interrupt.{Step, ageOf, plain, padded, chained, back, 
 use Rattle.machine.specs.Step.{executed}
 use Rattle.machine.specs.Run.{Move, worldAfter, stepOf}
 use Rattle.machine.specs.Calls.{Verdict, taken, refused, verdict, startTests, startAnswered, startCall}
+use Rattle.machine.specs.Laws.{TwelveInside, TwelveInReturn}
+use Rattle.machine.proofs.JudgeLaws.{acts-unheld}
+use Rattle.machine.proofs.TwelveLaws.{twelve-inside, twelve-in-return}
 use Rattle.machine.proofs.PassLaws.{pass-clock}
 use Rattle.machine.proofs.StepLaws.{judged, next, bytes, next-clock, afterReti, afterReturn, Runs, Returns, Way, resets, halts, runs, serves, pads, chains, returns, padsAgain, way}
 use Rattle.secrecy.specs.Calls.{Call, runOf}
@@ -40,7 +45,7 @@ use Rattle.secrecy.specs.Secrecy.{startWorld}
 use Rattle.secrecy.proofs.Chain.{moved, next as after, Chain, done, more, run-chain, none-run}
 use Rattle.secrecy.proofs.Ways.{Steady, start-steady, steady-next, Service, kept, fell, resuming, Inner, failed, went, acting-inside, acting-held, inner-step, held-step}
 use Rattle.secrecy.proofs.Visiting.{phaseAt, held-drops, held-goes, leaves, Good, good-away, good-held, phase-held, phase-outside, phase-visiting, phase-entry, reset-visit, walk-visit, goes-good, goes-outcome}
-use Rattle.secrecy.specs.Duration.{serviceAdds, insideAdds, meanwhile, startsVisit, Duration}
+use Rattle.secrecy.specs.Duration.{serviceAdds, insideAdds, meanwhile, startsVisit, Duration, judgedBefore, Served, Twelve}
 
 -- what a held visit still owes of the 17 cycles of its padded interrupt: RETI's 5 and the return padding
 abbrev owed : HeldVisit → ℕ
@@ -275,6 +280,20 @@ module _ (L : Layout) (stamps : List ℕ) (fit : accepted L ≡ true) where
   lasted {w} (more r c) s (u ∷ us) v later e =
       lasted c (steady-next L stamps (w .machine) (w .memory) fit r s) us v later (cc)
 
+none : {A : Type 0} (us : List Move) (v : Move) (later : List Move) → [] ≡ us ++ (v ∷ later) → A
+none [] v later e = let z : _≡_ {A = ℕ} 0 1 = cc in absurd (omega arith)
+none (u ∷ us) v later e = let z : _≡_ {A = ℕ} 0 1 = cc in absurd (omega arith)
+
+-- what holds of a step of every steady running machine holds of each step of a run
+each-step : (L : Layout) (stamps : List ℕ) → accepted L ≡ true → (Q : Move → Type 0)
+    → ((w : World) → Steady L (w .machine) → w .machine .halted ≡ false → Q (moved L stamps w))
+    → {w : World} {run : List Move} → Chain L stamps w run → Steady L (w .machine) → (us : List Move) (v : Move) (later : List Move)
+    → run ≡ us ++ (v ∷ later) → Q v
+each-step L stamps fit Q q done s us v later e = none us v later e
+each-step L stamps fit Q q {w} (more {vs = vs} r c) s [] v later e = subst Q (cc) (q w s r)
+each-step L stamps fit Q q {w} (more {vs = vs} r c) s (u ∷ us) v later e =
+    each-step L stamps fit Q q c (steady-next L stamps (w .machine) (w .memory) fit r s) us v later (cc)
+
 start-world : (L : Layout) (mem : List ℕ) → Steady L (startWorld mem .machine)
 unfolding startCall
 start-world L mem = go (verdict (startTests mem))
@@ -283,13 +302,39 @@ start-world L mem = go (verdict (startTests mem))
     go taken = start-steady L mem
     go (refused r) = start-steady L []
 
-none : {A : Type 0} (us : List Move) (v : Move) (later : List Move) → [] ≡ us ++ (v ∷ later) → A
-none [] v later e = let z : _≡_ {A = ℕ} 0 1 = cc in absurd (omega arith)
-none (u ∷ us) v later e = let z : _≡_ {A = ℕ} 0 1 = cc in absurd (omega arith)
-
 pub duration : Duration
 unfolding Duration
 duration L stamps mem calls us v later e made run h f =
     cases (accepted L)
     (λ fit. lasted L stamps fit (run-chain L stamps (startWorld mem) calls) (start-world L mem) us v later run e h f)
+    (λ n. none us v later (sym (none-run L stamps n (startWorld mem) calls) ∙ run))
+
+-- the two halves of the twelve-cycle law, of one step
+abbrev Soon : Layout → List ℕ → ℕ → Move → Type 0
+Soon L stamps s v =
+    ((i : Instruction) → inside L (pc (v .before .machine .registers)) ≡ true → judgedBefore L v ≡ acts i
+    → gie (sr (v .before .machine .registers)) ≡ true
+    → executed L stamps (v .before .machine) (v .before .memory) i .time .slot ≡ At s → Served s v)
+    × ((previous age : ℕ) → v .before .machine .visit ≡ Held previous age → judgedBefore L v ≡ acts Reti
+    → pass stamps (cyclesOf Reti) (v .before .machine .time) .slot ≡ Never
+    → pass stamps age (pass stamps (cyclesOf Reti) (v .before .machine .time)) .slot ≡ At s → Served s v)
+
+soon : (L : Layout) (stamps : List ℕ) (s : ℕ) (w : World) → Steady L (w .machine) → w .machine .halted ≡ false
+    → Soon L stamps s (moved L stamps w)
+unfolding TwelveInside TwelveInReturn
+soon L stamps s w k r =
+    ((λ i h e g f.
+    twelve-inside L stamps (w .machine) (w .memory) i s r h
+    (unheld (w .machine .visit) (acts-unheld L _ (w .machine .registers) (w .memory) (w .machine .previous) i e h)) e g (k .quiet r g) f),
+    (λ p a h e n f. twelve-in-return L stamps (w .machine) (w .memory) p a s r (k .frame) h e n f))
+  where
+    unheld : (v : HeldVisit) → isHeld v ≡ false → v ≡ Free
+    unheld Free h = refl
+    unheld (Held p a) h = absurd (true≢false h)
+
+pub twelve : Twelve
+unfolding Twelve
+twelve L stamps mem calls us v later s made run =
+    cases (accepted L)
+    (λ fit. each-step L stamps fit (Soon L stamps s) (soon L stamps s) (run-chain L stamps (startWorld mem) calls) (start-world L mem) us v later run)
     (λ n. none us v later (sym (none-run L stamps n (startWorld mem) calls) ∙ run))

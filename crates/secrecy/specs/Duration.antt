@@ -1,21 +1,30 @@
--- How long a visit lasts: its own instruction cycles, and what interrupts add.
+-- How long a visit lasts: its own instruction cycles, and what interrupts add; and when a request is served.
 use Prim.Native.Nat.{ℕ, _+_, _*_}
 use mathlib.Core.Path.{_≡_}
 use mathlib.Core.Bool.{Bool, true, false, not}
 use mathlib.Core.List.{List, [], _∷_, _++_}
 use lib.Dec.{eqb}
 use Rattle.base.specs.Test.{if_then_else_, all}
+use Rattle.isa.specs.declared.instruction.Instruction.{Instruction}
+use Rattle.isa.specs.declared.instruction.Instruction.the-variants.{Reti}
+use Rattle.isa.specs.Cycles.{cyclesOf}
 use Rattle.layout.specs.declared.sections.Layout.{Layout}
 use Rattle.layout.specs.Sections.{entry, inside}
+use Rattle.alu.specs.Status.{gie}
+use Rattle.machine.specs.declared.state.Stamp.the-variants.{Never, At}
 use Rattle.machine.specs.declared.state.Time.{Time}
+use Rattle.machine.specs.declared.state.Visit.the-variants.{Held}
 use Rattle.machine.specs.declared.state.Machine.{Machine}
 use Rattle.machine.specs.declared.answer.Outcome.{Outcome}
 use Rattle.machine.specs.declared.answer.Outcome.the-variants.{Ran, Plain, Padded, Chained, Back, Reset, Halted}
 use Rattle.machine.specs.declared.answer.StartAnswer.the-variants.{Made}
-use Rattle.machine.specs.Registers.{pc}
+use Rattle.machine.specs.Registers.{pc, sr}
 use Rattle.machine.specs.Outcome.{isReset}
+use Rattle.machine.specs.Time.{pass}
 use Rattle.machine.specs.State.{World, isHeld}
+use Rattle.machine.specs.Judge.{Judged, acts, judge}
 use Rattle.machine.specs.Interrupt.{Step}
+use Rattle.machine.specs.Step.{executed}
 use Rattle.machine.specs.Run.{Move}
 use Rattle.machine.specs.Calls.{Called, startCall}
 use Rattle.secrecy.specs.Calls.{Call, runOf}
@@ -69,3 +78,25 @@ Duration =
     → startCall mem .answer ≡ Made → runOf L stamps (startWorld mem) calls ≡ earlier ++ (v ∷ later)
     → startsVisit L v ≡ true → fateAt (visits L away (v ∷ later)) 0 ≡ ended e
     → e .clock ≡ v .before .machine .time .clock + e .own + meanwhile L (v ∷ later)
+
+-- what the step's instruction is judged
+abbrev pub judgedBefore : Layout → Move → Judged
+judgedBefore L v =
+    let m = v .before .machine in judge L (isHeld (m .visit)) (m .registers) (v .before .memory) (m .previous)
+
+-- the step ends in the service of the request with stamp s, 12 cycles after it
+abbrev pub Served : ℕ → Move → Type 0
+Served s v = (v .after .outcome ≡ Padded) × (v .after .machine .time .clock ≡ s + 12)
+
+-- from the start state, for every list of calls: a request that fills the slot during an instruction inside (not a reset), GIE set,
+-- or in return padding, reaches service exactly 12 cycles after its stamp
+unfoldable pub Twelve : Type 0
+Twelve =
+    (L : Layout) (stamps mem : List ℕ) (calls : List Call) (earlier : List Move) (v : Move) (later : List Move) (s : ℕ)
+    → startCall mem .answer ≡ Made → runOf L stamps (startWorld mem) calls ≡ earlier ++ (v ∷ later)
+    → ((i : Instruction) → inside L (pc (v .before .machine .registers)) ≡ true → judgedBefore L v ≡ acts i
+    → gie (sr (v .before .machine .registers)) ≡ true
+    → executed L stamps (v .before .machine) (v .before .memory) i .time .slot ≡ At s → Served s v)
+    × ((previous age : ℕ) → v .before .machine .visit ≡ Held previous age → judgedBefore L v ≡ acts Reti
+    → pass stamps (cyclesOf Reti) (v .before .machine .time) .slot ≡ Never
+    → pass stamps age (pass stamps (cyclesOf Reti) (v .before .machine .time)) .slot ≡ At s → Served s v)
