@@ -1,0 +1,68 @@
+-- Two machines of which the theorem speaks: their modules differ, a pulse breaks into them at different instructions, and outside
+-- code sees the same.
+use Prim.Native.Nat.{ℕ, _≤_}
+use mathlib.Core.Path.{_≡_}
+use mathlib.Core.List.{List, [], _∷_, _++_, map}
+use lib.ListN.{length, replicate}
+use Rattle.layout.specs.declared.sections.Layout.{Layout}
+use Rattle.layout.specs.Sections.{outside}
+use Rattle.machine.specs.declared.state.Time.{Time}
+use Rattle.machine.specs.declared.state.Machine.{Machine}
+use Rattle.machine.specs.declared.answer.Outcome.the-variants.{Ran, Padded, Back, Halted}
+use Rattle.machine.specs.declared.answer.StartAnswer.the-variants.{Made}
+use Rattle.machine.specs.Registers.{pc}
+use Rattle.machine.specs.State.{World}
+use Rattle.machine.specs.Interrupt.{Step}
+use Rattle.machine.specs.Run.{Move}
+use Rattle.machine.specs.Calls.{Called, startCall}
+use Rattle.machine.specs.Starred.{MLine, M, loaded, StepLine, line, linesOf}
+use Rattle.secrecy.specs.Calls.{Call, running, runOf}
+use Rattle.secrecy.specs.Sighting.{Sighting, sightings}
+use Rattle.secrecy.specs.Visit.{away, visits}
+use Rattle.secrecy.specs.Secrecy.{startWorld, Premise}
+
+abbrev pub exampleLayout : Layout
+exampleLayout = record { code = record { start = 0x0040; end = 0x004A }; «data» = record { start = 0x0050; end = 0x0054 }; service = 0x0020 }
+
+-- outside: GIE is set, the module is entered; later some NOPs and HLT. The service routine: two NOPs and RETI
+abbrev pub outsideLines : List MLine
+outsideLines =
+    M 0xFFFE 0x0010 ∷ M 0x0010 0x4032 ∷ M 0x0012 0x0008 ∷ M 0x0014 0x4030 ∷ M 0x0016 0x0040
+    ∷ M 0x0020 0x4303 ∷ M 0x0022 0x4303 ∷ M 0x0024 0x1300
+    ∷ M 0x0030 0x4303 ∷ M 0x0032 0x4303 ∷ M 0x0034 0x4303 ∷ M 0x0036 0x4303 ∷ M 0x0038 0x4303 ∷ M 0x003A 0x0001 ∷ []
+
+-- how the module leaves: MOV #0030 6, JMP &6
+abbrev pub leavingLines : List MLine
+leavingLines = M 0x0044 0x4036 ∷ M 0x0046 0x0030 ∷ M 0x0048 0x4600 ∷ []
+
+-- one module begins with two NOPs, the other with MOV #0 7: two cycles each
+unfoldable pub memoryA : List ℕ
+memoryA = loaded (replicate 65536 0) (outsideLines ++ leavingLines ++ (M 0x0040 0x4303 ∷ M 0x0042 0x4303 ∷ []))
+
+unfoldable pub memoryB : List ℕ
+memoryB = loaded (replicate 65536 0) (outsideLines ++ leavingLines ++ (M 0x0040 0x4037 ∷ M 0x0042 0x0000 ∷ []))
+
+-- one run of both, with a request at stamp 5
+unfoldable pub exampleRun : List ℕ → List Move
+exampleRun mem = runOf exampleLayout (5 ∷ []) (startWorld mem) (running 40 ∷ [])
+
+-- the lines of both runs up to where the module is left, and from there on
+abbrev pub linesBefore : List StepLine
+linesBefore =
+    line Ran 2 0x0014 8 0 ∷ line Ran 4 0x0040 8 0 ∷ line Padded 17 0x0020 0 0 ∷ line Ran 18 0x0022 0 0 ∷ line Ran 19 0x0024 0 0 ∷ []
+
+abbrev pub linesLater : List StepLine
+linesLater =
+    line Ran 27 0x0048 8 0 ∷ line Ran 29 0x0030 8 0 ∷ line Ran 30 0x0032 8 0 ∷ line Ran 31 0x0034 8 0 ∷ line Ran 32 0x0036 8 0
+    ∷ line Ran 33 0x0038 8 0 ∷ line Ran 34 0x003A 8 0 ∷ line Halted 35 0x003C 8 0 ∷ []
+
+-- the premise holds of them, they are broken into at different instructions (the one goes back to 0042 at 24, the other to 0044 at
+-- 25), and each has eleven sightings, a resumption among them
+pub record NotVacuous : Type 0 where
+  pub startsA : startCall memoryA .answer ≡ Made
+  pub startsB : startCall memoryB .answer ≡ Made
+  pub runA : linesOf (exampleRun memoryA) ≡ linesBefore ++ (line Back 24 0x0042 8 0 ∷ line Ran 25 0x0044 8 0 ∷ linesLater)
+  pub runB : linesOf (exampleRun memoryB) ≡ linesBefore ++ (line Back 25 0x0044 8 0 ∷ linesLater)
+  pub premise : Premise 100 (visits exampleLayout away (exampleRun memoryA)) (visits exampleLayout away (exampleRun memoryB))
+  pub seenA : length (sightings exampleLayout 100 (exampleRun memoryA)) ≡ 11
+  pub seenB : length (sightings exampleLayout 100 (exampleRun memoryB)) ≡ 11
