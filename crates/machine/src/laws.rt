@@ -1,7 +1,7 @@
 // What is claimed of the machine: each claim is the contract of a function with nothing to do.
 ghost use Rattle.base.specs.Case.{Settled};
 ghost use Rattle.machine.specs.Starred.{starredCases};
-ghost use Rattle.machine.specs.Laws.{PassAdds, StepCycles, HaltedStays, FramedAtStart, FrameKept, LengthKept, OnlyDistanceOrClock, GieKeptInside, QuietAtStart, QuietKept, AgeAtMostFive, WritesOwnSide, TwelveInside, TwelveInReturn, PaddedByStamp, BarredUnread, NoReentry, SecondElsewhereUnread, PrivilegedInside, ChainsWhateverGie, ResetAfterStore, RunCounts, RunEnds, RunAdds};
+ghost use Rattle.machine.specs.Laws.{PassAdds, StepCycles, HaltedStays, FramedAtStart, FrameKept, LengthKept, OnlyDistanceOrClock, GieKeptInside, QuietAtStart, QuietKept, AgeAtMostFive, WritesOwnSide, TwelveInside, TwelveInReturn, PaddedByStamp, BarredUnread, NoReentry, SecondElsewhereUnread, PrivilegedInside, ChainsWhateverGie, ResetAfterStore, RunCounts, RunEnds, RunAdds, OutsideLocal, InsideConfined};
 
 // The starred cases of document 01, one list, and its sheet.
 pub fn starred()
@@ -126,4 +126,14 @@ pub fn run_ends()
 // Running n and then k steps is running n + k.
 pub fn run_adds()
     ensures { λ _. ⌜ RunAdds ⌝ }
+{}
+
+// A step of a running machine that begins outside is decided by what is seen from outside, or resumes the held module.
+pub fn outside_local()
+    ensures { λ _. ⌜ OutsideLocal ⌝ }
+{}
+
+// An instruction inside passes only its cycles, keeps the outside bytes and keeps GIE.
+pub fn inside_confined()
+    ensures { λ _. ⌜ InsideConfined ⌝ }
 {}

@@ -1,28 +1,25 @@
--- A list of calls makes a chain of steps: each is one of a running machine and begins where the last one left, and the list leaves
--- what the chain ends with. Assumes nothing.
+-- A list of calls is a chain of steps of a running machine, each from where the last one left. Assumes nothing.
 use mathlib.Core.Path.{_≡_, refl, sym, _∙_, ap, subst}
-use mathlib.Core.Bool.{Bool, true, false, true≢false}
+use mathlib.Core.Bool.{true, false, true≢false}
 use mathlib.Core.List.{List, [], _∷_, _++_}
-use Prim.Native.Nat.{ℕ, zero, suc, _+_, _≤_, _<_}
+use Prim.Native.Nat.{ℕ, zero, suc, _+_, _≤_}
 use native.Mathlib.Omega.{arith}
-use lib.Dec.{leb}
+use lib.Dec.{eqb}
 use borrow.Author.Tests.{leb-true}
-use Rattle.base.specs.Test.{if_then_else_, all}
-use Rattle.base.proofs.Tests.{cases, choose, if-true, if-false}
+use Rattle.base.proofs.Tests.{cases, if-true, if-false}
 use Rattle.layout.specs.declared.sections.Layout.{Layout}
 use Rattle.layout.specs.Rules.{accepted}
-use Rattle.machine.specs.declared.state.Time.{Time}
-use Rattle.machine.specs.declared.state.Machine.{Machine}
 use Rattle.machine.specs.declared.answer.End.the-variants.{Spent}
 use Rattle.machine.specs.State.{World, world}
-use Rattle.machine.specs.Interrupt.{Step}
 use Rattle.machine.specs.Run.{lastClock, Going, goes, stops, ending, Stop, Move, worldAfter, stepOf, stopOr, runFrom, run, noneOr, moves}
 use Rattle.machine.specs.Calls.{Test, Verdict, taken, refused, verdict, stepTests, runTests, stepCall, runCall}
-use Rattle.machine.specs.Laws.{HaltedStays}
+use Rattle.machine.specs.Laws.{HaltedStays, FrameKept, LengthKept, Sound}
+use Rattle.machine.proofs.CycleLaws.{halted-stays}
+use Rattle.machine.proofs.FrameLaws.{frame-kept}
+use Rattle.machine.proofs.TouchLaws.{length-kept}
 use Rattle.machine.proofs.RunLaws.{Ends, running, haltedNow, lateNow, ends}
 use Rattle.secrecy.specs.Calls.{Call, stepping, movesWhen, made, leftBy, runOf, leftByAll}
 use Rattle.secrecy.specs.Calls
-use Rattle.machine.proofs.CycleLaws.{halted-stays}
 
 -- where a list of steps ends
 unfoldable pub endOf : World → List Move → World
@@ -32,10 +29,11 @@ endOf w (v ∷ vs) = endOf (worldAfter (v .after)) vs
 -- ---- what a verdict says of the tests
 
 -- a call that is taken passes each test
-first-holds : (t : Test) (ts : List Test) → verdict (t ∷ ts) ≡ taken → (t .holds ≡ true) × (verdict ts ≡ taken)
+pub first-holds : (t : Test) (ts : List Test) → verdict (t ∷ ts) ≡ taken → (t .holds ≡ true) × (verdict ts ≡ taken)
 unfolding verdict
 first-holds t ts e =
-    cases (t .holds) (λ h. (h, sym (if-true _ _ _ h) ∙ e)) (λ h. let z : refused (t .refusal) ≡ taken = sym (if-false _ _ _ h) ∙ e in (cc, cc))
+    cases (t .holds) (λ h. (h, sym (if-true _ _ _ h) ∙ e))
+    (λ h. let z : refused (t .refusal) ≡ taken = sym (if-false _ _ _ h) ∙ e in (cc, cc))
 
 module _ (L : Layout) (stamps : List ℕ) where
   -- a step of a world, and the world after it
@@ -81,7 +79,10 @@ module _ (L : Layout) (stamps : List ℕ) where
   unfolding runFrom moves endOf
   run-ends-there n zero w = go (ending (w .machine))
     where
-      go : (g : Going) → stopped (stopOr L stamps n w (record { machine = w .machine; memory = w .memory; end = Spent; steps = n }) g) ≡ w
+      spent : Stop
+      spent = record { machine = w .machine; memory = w .memory; end = Spent; steps = n }
+
+      go : (g : Going) → stopped (stopOr L stamps n w spent g) ≡ w
       go goes = refl
       go (stops e) = refl
   run-ends-there n (suc left) w = go (ending (w .machine)) (run-ends-there (n + 1) left (next w))
@@ -143,14 +144,37 @@ module _ (L : Layout) (stamps : List ℕ) where
   pub run-chain : (w : World) (calls : List Call) → Chain w (runOf L stamps w calls)
   unfolding runOf
   run-chain w [] = done
-  run-chain w (c ∷ calls) = append (made-chain w c) (subst (λ (u : World). Chain u (runOf L stamps (leftBy L stamps w c) calls)) (left-end w c) (run-chain (leftBy L stamps w c) calls))
+  run-chain w (c ∷ calls) =
+      append (made-chain w c)
+      (subst (λ (u : World). Chain u (runOf L stamps (leftBy L stamps w c) calls)) (left-end w c)
+      (run-chain (leftBy L stamps w c) calls))
 
   pub left-by-all : (w : World) (calls : List Call) → leftByAll L stamps w calls ≡ endOf w (runOf L stamps w calls)
   unfolding runOf leftByAll
   left-by-all w [] = unfold endOf in refl
   left-by-all w (c ∷ calls) =
-      left-by-all (leftBy L stamps w c) calls ∙ ap (λ (u : World). endOf u (runOf L stamps (leftBy L stamps w c) calls)) (left-end w c)
+      left-by-all (leftBy L stamps w c) calls
+      ∙ ap (λ (u : World). endOf u (runOf L stamps (leftBy L stamps w c) calls)) (left-end w c)
       ∙ sym (end-append w (made L stamps w c) (runOf L stamps (leftBy L stamps w c) calls))
+
+  -- what refusals 1 to 4 test stays true, so that only 5 and 6 can happen on a list
+  sound-next : (w : World) → Sound L stamps w → Sound L stamps (next w)
+  unfolding FrameKept LengthKept
+  sound-next w s =
+      record {
+        memory = ap (λ (n : ℕ). eqb n 65536) (length-kept L stamps (w .machine) (w .memory)) ∙ s .memory;
+        layout = s .layout;
+        timetable = s .timetable;
+        frame = frame-kept L stamps (w .machine) (w .memory) (s .layout) (s .frame);
+      }
+
+  sound-end : {w : World} {vs : List Move} → Chain w vs → Sound L stamps w → Sound L stamps (endOf w vs)
+  unfolding endOf
+  sound-end done s = s
+  sound-end {w} (more h c) s = sound-end c (sound-next w s)
+
+  pub sound-left : (w : World) (calls : List Call) → Sound L stamps w → Sound L stamps (leftByAll L stamps w calls)
+  sound-left w calls s = subst (Sound L stamps) (sym (left-by-all w calls)) (sound-end (run-chain w calls) s)
 
   -- ---- a layout that is not accepted: every call is refused
 

@@ -262,7 +262,7 @@ module _ (L : Layout) (stamps : List ℕ) (fit : accepted L ≡ true) where
       let free = free-of (w .machine .visit) (t .0) in
       let out : inside L (w .machine .previous) ≡ false = not-true _ (t .1 .1 .0) in
       let here : outside L (pc (w .machine .registers)) ≡ false
-          = ap (outside L) (eqb-true _ _ (t .1 .0)) ∙ inside-not-outside L (entry L) (section-inside L (entry L) (entry-section L fit)) in
+      = ap (outside L) (eqb-true _ _ (t .1 .0)) ∙ inside-not-outside L (entry L) (section-inside L (entry L) (entry-section L fit)) in
       let k = lasting L stamps fit away (w .machine .time .clock) 0 c (good-away L (w .machine) s free out)
       (phase-entry L (w .machine) away free here (t .1 .0) out) in
       so _ (ap (λ (x : ℕ). w .machine .time .clock + x) (ap owed free)) e (subst (Lasts (w .machine .time .clock + owed (w .machine .visit)) 0 (meanwhile L (moved L stamps w ∷ vs))) f k)
@@ -322,11 +322,12 @@ Soon L stamps s v =
 soon : (L : Layout) (stamps : List ℕ) (s : ℕ) (w : World) → Steady L (w .machine) → w .machine .halted ≡ false
     → Soon L stamps s (moved L stamps w)
 unfolding TwelveInside TwelveInReturn
-soon L stamps s w k r =
-    ((λ i h e g f.
-    twelve-inside L stamps (w .machine) (w .memory) i s r h
-    (unheld (w .machine .visit) (acts-unheld L _ (w .machine .registers) (w .memory) (w .machine .previous) i e h)) e g (k .quiet r g) f),
-    (λ p a h e n f. twelve-in-return L stamps (w .machine) (w .memory) p a s r (k .frame) h e n f))
+soon L stamps s w k r = (
+  (λ i h e g f.
+      twelve-inside L stamps (w .machine) (w .memory) i s r h
+      (unheld (w .machine .visit) (acts-unheld L _ (w .machine .registers) (w .memory) (w .machine .previous) i e h)) e g (k .quiet r g) f),
+  (λ p a h e n f. twelve-in-return L stamps (w .machine) (w .memory) p a s r (k .frame) h e n f),
+)
   where
     unheld : (v : HeldVisit) → isHeld v ≡ false → v ≡ Free
     unheld Free h = refl

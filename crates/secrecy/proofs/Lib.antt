@@ -1,5 +1,10 @@
 pub mod Chain
 pub mod Ways
 pub mod Visiting
+pub mod Jump
+pub mod Meet
+pub mod Abreast
+pub mod Together
+pub mod Secrecy
 pub mod Lasting
 pub mod Example

@@ -1,40 +1,42 @@
--- What a first step says of a run's visits and sightings: one equation for each branch. A visit ends with at least the own cycles that it
--- has, and nothing is seen above T. Assumes nothing.
+-- Visits and sightings by a first step, one equation for each branch; a visit's least own cycles; silence above T. Assumes nothing.
 use mathlib.Core.Path.{_≡_, refl, sym, _∙_, ap, subst}
-use mathlib.Core.Bool.{Bool, true, false, not, true≢false}
+use mathlib.Core.Bool.{Bool, true, false, not}
 use mathlib.Core.List.{List, [], _∷_, _++_}
 use Prim.Native.Nat.{ℕ, _+_, _≤_, _<_}
 use native.Mathlib.Omega.{arith}
-use lib.Dec.{eqb, leb}
+use lib.Dec.{eqb}
 use borrow.Author.Tests.{le-leb, lt-leb}
 use Rattle.base.specs.Test.{if_then_else_, all}
-use Rattle.base.proofs.Tests.{cases, each, every, if-true, if-false, choose}
+use Rattle.base.proofs.Tests.{every, if-true, if-false, choose}
 use Rattle.layout.specs.declared.sections.Layout.{Layout}
 use Rattle.layout.specs.Sections.{inside, outside, entry}
 use Rattle.layout.specs.Rules.{accepted}
-use Rattle.alu.specs.Status.{gie}
 use Rattle.machine.specs.declared.state.Time.{Time}
 use Rattle.machine.specs.declared.state.Visit.{Visit as HeldVisit}
 use Rattle.machine.specs.declared.state.Visit.the-variants.{Free, Held}
 use Rattle.machine.specs.declared.state.Machine.{Machine}
-use Rattle.machine.specs.Registers.{pc, sr}
+use Rattle.machine.specs.Registers.{pc}
 use Rattle.machine.specs.Outcome.{isReset}
 use Rattle.machine.specs.State.{World, isHeld}
 use Rattle.machine.specs.Interrupt.{Step}
 use Rattle.machine.specs.Run.{Move, worldAfter, stepOf}
 use Rattle.machine.specs.Laws.{StepCycles}
-use Rattle.machine.proofs.StepLaws.{judged}
-use Rattle.secrecy.specs.Sighting.{viewOf, sightingOf, beginsOutside, sightings}
-use Rattle.secrecy.specs.Visit.{Way, leaving, ownReset, VisitEnd, Fate, unended, ended, Visit, Phase, away, visiting, judgedCycles, ownCycles, entered, left, closed, longer, visits, fateAt}
 use Rattle.machine.proofs.CycleLaws.{step-cycles}
-use Rattle.secrecy.proofs.Chain.{moved, next, Chain, done, more}
-use Rattle.secrecy.proofs.Ways.{Steady, steady-next, Goes, walked, struck, Service, kept, fell, resuming, Inner, failed, went, inner-step, outside-step, held-step}
+use Rattle.machine.proofs.StepLaws.{judged}
+use Rattle.secrecy.specs.Sighting.{Sighting, viewOf, sightingOf, beginsOutside, sightings}
+use Rattle.secrecy.specs.Visit.{Way, leaving, ownReset, Fate, unended, ended, Visit, Phase, away, visiting, judgedCycles, ownCycles, entered, left, closed, longer, visits, fateAt}
+use Rattle.secrecy.proofs.Chain.{moved, Chain, done, more}
+use Rattle.secrecy.proofs.Ways.{Steady, steady-next, Goes, walked, struck, Service, kept, fell, resuming, Inner, failed, went, inner-step, held-step}
 
 -- a step of a world
 abbrev pub moveOf : World → Step → Move
 moveOf w s = record { before = w; after = s }
 
 -- ---- the sightings of a first step
+
+-- what is seen of a step
+abbrev pub sightingAt : Layout → Move → Sighting
+sightingAt L v = sightingOf (viewOf L (v .before)) (viewOf L (worldAfter (v .after))) (v .after .outcome)
 
 first-false : (a b : Bool) → a ≡ false → all (a ∷ b ∷ []) ≡ false
 unfolding all
@@ -55,8 +57,7 @@ module _ (L : Layout) (T : ℕ) (v : Move) (vs : List Move) where
   unseen-late h = if-false _ _ _ (second-false (beginsOutside L v) _ (lt-leb _ _ h))
 
   pub sighted : beginsOutside L v ≡ true → v .before .machine .time .clock ≤ T
-      → sightings L T (v ∷ vs)
-      ≡ sightingOf (viewOf L (v .before)) (viewOf L (worldAfter (v .after))) (v .after .outcome) ∷ sightings L T vs
+      → sightings L T (v ∷ vs) ≡ sightingAt L v ∷ sightings L T vs
   unfolding sightings
   sighted o h = if-true _ _ _ (every _ (o, (le-leb _ _ h, tt)))
 
@@ -67,6 +68,13 @@ unfoldable pub phaseAt : Layout → Machine → Phase → Phase
 phaseAt L m p =
     if isHeld (m .visit) then p else if outside L (pc (m .registers)) then p
     else if all (eqb (pc (m .registers)) (entry L) ∷ not (inside L (m .previous)) ∷ []) then visiting (m .time .clock) 0 else p
+
+-- the end of a visit that is left by this step, and by its own reset
+abbrev pub leftEnd : Phase → Move → List Visit
+leftEnd p v = closed p (v .before .machine .time .clock) 0 leaving (v .before .machine .registers)
+
+abbrev pub resetEnd : Layout → Phase → Move → List Visit
+resetEnd L p v = closed p (v .after .machine .time .clock) (ownCycles L v) ownReset (v .after .machine .registers)
 
 module _ (L : Layout) (p : Phase) (v : Move) (vs : List Move) where
   pub held-drops : isHeld (v .before .machine .visit) ≡ true → isReset (v .after .outcome) ≡ true
@@ -80,23 +88,21 @@ module _ (L : Layout) (p : Phase) (v : Move) (vs : List Move) where
   held-goes h r = if-true _ _ _ h ∙ if-false _ _ _ r
 
   pub leaves : isHeld (v .before .machine .visit) ≡ false → beginsOutside L v ≡ true
-      → visits L p (v ∷ vs) ≡ closed p (v .before .machine .time .clock) 0 leaving (v .before .machine .registers) ++ visits L away vs
+      → visits L p (v ∷ vs) ≡ leftEnd p v ++ visits L away vs
   unfolding visits
   leaves h o = if-false _ _ _ h ∙ if-true _ _ _ o
 
-  entered-at : isHeld (v .before .machine .visit) ≡ false → beginsOutside L v ≡ false → phaseAt L (v .before .machine) p ≡ entered L v p
+  entered-at : isHeld (v .before .machine .visit) ≡ false → beginsOutside L v ≡ false
+      → phaseAt L (v .before .machine) p ≡ entered L v p
   unfolding phaseAt
   entered-at h o = if-false _ _ _ h ∙ if-false _ _ _ o
 
   pub resets-own : isHeld (v .before .machine .visit) ≡ false → beginsOutside L v ≡ false → isReset (v .after .outcome) ≡ true
-      → visits L p (v ∷ vs)
-      ≡ closed (phaseAt L (v .before .machine) p) (v .after .machine .time .clock) (ownCycles L v) ownReset (v .after .machine .registers)
-      ++ visits L away vs
+      → visits L p (v ∷ vs) ≡ resetEnd L (phaseAt L (v .before .machine) p) v ++ visits L away vs
   unfolding visits
   resets-own h o r =
       if-false _ _ _ h ∙ if-false _ _ _ o ∙ if-true _ _ _ r
-      ∙ ap (λ (q : Phase). closed q (v .after .machine .time .clock) (ownCycles L v) ownReset (v .after .machine .registers) ++ visits L away vs)
-      (sym (entered-at h o))
+      ∙ ap (λ (q : Phase). resetEnd L q v ++ visits L away vs) (sym (entered-at h o))
 
   pub inner-goes : isHeld (v .before .machine .visit) ≡ false → beginsOutside L v ≡ false → isReset (v .after .outcome) ≡ false
       → visits L p (v ∷ vs) ≡ visits L (longer (phaseAt L (v .before .machine) p) (ownCycles L v)) vs
@@ -134,7 +140,8 @@ module _ (L : Layout) (m : Machine) (steady : Steady L m) where
       record { steady = steady; phase = subst (λ (v : HeldVisit). InPhase L v (m .previous) (visiting start own)) (sym h) n }
 
 -- no visit goes on: the previous address is not inside
-pub away-previous : (L : Layout) (m : Machine) (p : Phase) → Good L m p → m .visit ≡ Free → p ≡ away → inside L (m .previous) ≡ false
+pub away-previous : (L : Layout) (m : Machine) (p : Phase) → Good L m p → m .visit ≡ Free → p ≡ away
+    → inside L (m .previous) ≡ false
 unfolding InPhase
 away-previous L m p g h e =
     subst (λ (v : HeldVisit). InPhase L v (m .previous) away) h (subst (InPhase L (m .visit) (m .previous)) e (g .phase))
@@ -180,8 +187,8 @@ module _ (L : Layout) (m : Machine) where
 -- ---- the visits of a step in code or data, none being held, by its own cycles
 
 module _ (L : Layout) (w : World) (s : Step) (p : Phase) (vs : List Move) (start own n : ℕ)
-    (h : w .machine .visit ≡ Free) (o : outside L (pc (w .machine .registers)) ≡ false) (e : phaseAt L (w .machine) p ≡ visiting start own)
-    (f : judgedCycles (judged L (w .machine) (w .memory)) ≡ n) where
+    (h : w .machine .visit ≡ Free) (o : outside L (pc (w .machine .registers)) ≡ false)
+    (e : phaseAt L (w .machine) p ≡ visiting start own) (f : judgedCycles (judged L (w .machine) (w .memory)) ≡ n) where
   pub reset-visit : isReset (s .outcome) ≡ true
       → visits L p (moveOf w s ∷ vs)
       ≡ record {
@@ -190,8 +197,9 @@ module _ (L : Layout) (w : World) (s : Step) (p : Phase) (vs : List Move) (start
       } ∷ visits L away vs
   reset-visit r =
       resets-own L p (moveOf w s) vs (ap isHeld h) o r
-      ∙ ap (λ (q : Phase). closed q (s .machine .time .clock) (ownCycles L (moveOf w s)) ownReset (s .machine .registers) ++ visits L away vs) e
-      ∙ ap (λ (x : ℕ). closed (visiting start own) (s .machine .time .clock) x ownReset (s .machine .registers) ++ visits L away vs) f
+      ∙ ap (λ (q : Phase). resetEnd L q (moveOf w s) ++ visits L away vs) e
+      ∙ ap
+      (λ (x : ℕ). closed (visiting start own) (s .machine .time .clock) x ownReset (s .machine .registers) ++ visits L away vs) f
 
   pub walk-visit : isReset (s .outcome) ≡ false → visits L p (moveOf w s ∷ vs) ≡ visits L (visiting start (own + n)) vs
   walk-visit r =
@@ -220,17 +228,18 @@ module _ (L : Layout) where
   -- one step of a visit: it ends, or it goes on
   data Course (w : World) (p : Phase) (vs : List Move) (start own : ℕ) (s : Step) : Type 0 where
     closes : (x : Visit) → visits L p (moveOf w s ∷ vs) ≡ x ∷ visits L away vs → Least own (x .fate) → Course w p vs start own s
-    goes : (n : ℕ) → own ≤ n → visits L p (moveOf w s ∷ vs) ≡ visits L (visiting start n) vs → Good L (s .machine) (visiting start n)
-        → Course w p vs start own s
+    goes : (n : ℕ) → own ≤ n → visits L p (moveOf w s ∷ vs) ≡ visits L (visiting start n) vs
+        → Good L (s .machine) (visiting start n) → Course w p vs start own s
 
 module _ (L : Layout) (stamps : List ℕ) where
   -- a step that goes on in the module, or is broken into there, is in its visit
-  pub goes-good : (t : Time) (g : Bool) (mem : List ℕ) (n start own : ℕ) (s : Step) → Steady L (s .machine) → Goes L stamps t g mem n s
-      → Good L (s .machine) (visiting start own)
+  pub goes-good : (t : Time) (g : Bool) (mem : List ℕ) (n start own : ℕ) (s : Step) → Steady L (s .machine)
+      → Goes L stamps t g mem n s → Good L (s .machine) (visiting start own)
   goes-good t g mem n start own s steady (walked x) = good-inner L _ steady start own (x .visit) (x .previous)
   goes-good t g mem n start own s steady (struck stamp on x) = good-held L _ steady start own (x .previous) (x .age) (x .visit)
 
-  pub goes-outcome : (t : Time) (g : Bool) (mem : List ℕ) (n : ℕ) (s : Step) → Goes L stamps t g mem n s → isReset (s .outcome) ≡ false
+  pub goes-outcome : (t : Time) (g : Bool) (mem : List ℕ) (n : ℕ) (s : Step) → Goes L stamps t g mem n s
+      → isReset (s .outcome) ≡ false
   goes-outcome t g mem n s (walked x) = x .outcome
   goes-outcome t g mem n s (struck stamp on x) = x .outcome
 
@@ -244,7 +253,8 @@ module _ (L : Layout) (stamps : List ℕ) where
     held-course previous age e (resuming q a h r x f g) =
         goes own (omega arith) (held-goes L _ _ vs (ap isHeld e) r) (goes-good _ _ _ _ start own s steady g)
 
-    left-course : w .machine .visit ≡ Free → outside L (pc (w .machine .registers)) ≡ true → Course L w (visiting start own) vs start own s
+    left-course : w .machine .visit ≡ Free → outside L (pc (w .machine .registers)) ≡ true
+        → Course L w (visiting start own) vs start own s
     unfolding Least
     left-course e o = closes _ (leaves L _ (moveOf w s) vs (ap isHeld e) o) (omega arith)
 
@@ -286,7 +296,8 @@ module _ (L : Layout) (stamps : List ℕ) where
         (λ n h. least (visiting start n) start n c h (phase-visiting L _ start n (h .phase)))
       where
         go : Course L w p vs start own (stepOf L stamps w)
-            → ((n : ℕ) → Good L (stepOf L stamps w .machine) (visiting start n) → Least n (fateAt (visits L (visiting start n) vs) 0))
+            → ((n : ℕ) → Good L (stepOf L stamps w .machine) (visiting start n)
+            → Least n (fateAt (visits L (visiting start n) vs) 0))
             → Least own (fateAt (visits L p (moved L stamps w ∷ vs)) 0)
         go (closes x a l) k = rw a l
         go (goes n l a h) k = rw a (least-less own n (fateAt (visits L (visiting start n) vs) 0) l (k n h))

@@ -1,14 +1,10 @@
--- How one step goes, seen from the visits: outside or while a visit is held it is kept, fell or resumes the module; in the module with
--- none held it fails, walks on or is broken into. Assumes nothing.
-use mathlib.Core.Path.{_≡_, refl, sym, _∙_, ap, subst}
+-- How one step goes, seen from the visits, as data types of few cases. Assumes nothing.
+use mathlib.Core.Path.{_≡_, refl, sym, _∙_, ap}
 use mathlib.Core.Bool.{Bool, true, false, true≢false}
-use mathlib.Core.List.{List, [], _∷_}
+use mathlib.Core.List.{List}
 use Prim.Native.Nat.{ℕ, _+_, _-_, _≤_, _<_, min}
 use native.Mathlib.Omega.{arith}
-use lib.Dec.{leb}
 use borrow.Author.Tests.{leb-true}
-use Rattle.base.specs.Test.{if_then_else_, all}
-use Rattle.base.specs.Word.{isEven}
 use Rattle.base.proofs.Tests.{cases, each, choose}
 use Rattle.isa.specs.declared.instruction.Instruction.{Instruction}
 use Rattle.isa.specs.declared.instruction.Instruction.the-variants.{Reti}
@@ -16,18 +12,14 @@ use Rattle.isa.specs.Cycles.{cyclesOf}
 use Rattle.layout.specs.declared.sections.Layout.{Layout}
 use Rattle.layout.specs.declared.sections.Section.{Section}
 use Rattle.layout.specs.declared.sections.Section.the-variants.{Outside, Code, Data}
-use Rattle.layout.specs.declared.access.Right.the-variants.{Execute}
-use Rattle.layout.specs.Sections.{section, isCode, isOutside, inside, outside, entry}
+use Rattle.layout.specs.Sections.{isCode, isOutside, inside, outside, entry}
 use Rattle.layout.specs.Rules.{accepted}
-use Rattle.layout.specs.Access.{may}
 use Rattle.layout.proofs.SectionLaws.{section-outside, outside-not-inside}
 use Rattle.layout.proofs.LayoutLaws.{vector-outside}
 use Rattle.layout.proofs.AccessLaws.{entered-at-entry, data-not-executed}
 use Rattle.alu.specs.Status.{gie}
-use Rattle.machine.specs.declared.state.Stamp.{Stamp}
 use Rattle.machine.specs.declared.state.Stamp.the-variants.{Never, At}
 use Rattle.machine.specs.declared.state.Time.{Time}
-use Rattle.machine.specs.declared.state.Visit.{Visit}
 use Rattle.machine.specs.declared.state.Visit.the-variants.{Free, Held}
 use Rattle.machine.specs.declared.state.Machine.{Machine}
 use Rattle.machine.specs.declared.answer.Cause.{Cause}
@@ -36,20 +28,27 @@ use Rattle.machine.specs.Registers.{pc, sr, cleared}
 use Rattle.machine.specs.Outcome.{isReset}
 use Rattle.machine.specs.Time.{pass, emptied}
 use Rattle.machine.specs.State.{vector, isHeld, resetAddress, framedVisit, framed, start}
-use Rattle.machine.specs.Judge.{Judged, faulty, acts}
+use Rattle.machine.specs.Judge.{acts}
 use Rattle.machine.specs.Interrupt.{Step, gives, ageOf, due, reset, plain, padded, chained, back}
 use Rattle.machine.specs.Step.{executed, step}
 use Rattle.machine.specs.Laws.{FramedAtStart, FrameKept, Quiet, QuietAtStart, QuietKept, PaddedByStamp, SameOutside, isResuming, Confined, InsideConfined}
 use Rattle.machine.proofs.PassLaws.{pass-clock, pass-filled}
 use Rattle.machine.proofs.JudgeLaws.{acts-executable, acts-unheld}
 use Rattle.machine.proofs.InstructionLaws.{cycles-range}
-use Rattle.machine.proofs.StepLaws.{judged, next, bytes, afterReti, afterReturn, Runs, Returns, Way, resets, halts, runs, serves, pads, chains, returns, padsAgain, way, runs-inside}
+use Rattle.machine.proofs.StepLaws.{judged, next, afterReti, afterReturn, Way, resets, halts, runs, serves, pads, chains, returns, padsAgain, way, runs-inside}
 use Rattle.machine.proofs.QuietLaws.{due-at, quiet-at-start, quiet-kept}
-use Rattle.machine.proofs.ViewLaws.{same-refl}
-use Rattle.secrecy.specs.Visit.{judgedCycles}
-use Rattle.machine.proofs.ConfinedLaws.{inside-confined}
 use Rattle.machine.proofs.FrameLaws.{framed-at-start, frame-kept}
 use Rattle.machine.proofs.TwelveLaws.{padded-by-stamp}
+use Rattle.machine.proofs.ConfinedLaws.{inside-confined}
+use Rattle.machine.proofs.ViewLaws.{same-refl}
+use Rattle.secrecy.specs.Visit.{judgedCycles}
+
+-- the reset vector is in no section
+pub vector-public : (L : Layout) → accepted L ≡ true → outside L vector ≡ true
+vector-public L fit = section-outside L vector (vector-outside L vector fit (omega arith))
+
+pub vector-free : (L : Layout) → accepted L ≡ true → inside L vector ≡ false
+vector-free L fit = outside-not-inside L vector (vector-public L fit)
 
 -- ---- what every machine of a run is
 
@@ -109,13 +108,15 @@ module _ (L : Layout) (stamps : List ℕ) where
     pub memory : SameOutside L mem (s .memory)
     pub outcome : isReset (s .outcome) ≡ false
 
+  -- GIE being g, it is the one or the other
   pub data Goes (t : Time) (g : Bool) (mem : List ℕ) (n : ℕ) (s : Step) : Type 0 where
     walked : Onward t g mem n s → Goes t g mem n s
     struck : (stamp : ℕ) → g ≡ true → BrokenInto t mem n stamp s → Goes t g mem n s
 
   -- the padded check of a machine in the module, n cycles on from t
-  module _ (t : Time) (g : Bool) (mem : List ℕ) (n : ℕ) (x : Machine) (mem′ : List ℕ) (short : n ≤ 6) (empty : g ≡ true → t .slot ≡ Never)
-      (time : x .time ≡ pass stamps n t) (enabled : gie (sr (x .registers)) ≡ g) (memory : SameOutside L mem mem′) where
+  module _ (t : Time) (g : Bool) (mem : List ℕ) (n : ℕ) (x : Machine) (mem′ : List ℕ) (short : n ≤ 6)
+      (empty : g ≡ true → t .slot ≡ Never) (time : x .time ≡ pass stamps n t)
+      (enabled : gie (sr (x .registers)) ≡ g) (memory : SameOutside L mem mem′) where
     check-walks : (o : Outcome) → isReset o ≡ false → x .visit ≡ Free → x .halted ≡ false → inside L (x .previous) ≡ true
         → Goes t g mem n (gives x mem′ o)
     check-walks o r v h p =
@@ -156,7 +157,8 @@ module _ (L : Layout) (stamps : List ℕ) where
     pub memory : s .memory ≡ mem
     pub outcome : isReset (s .outcome) ≡ true
 
-  -- a step that begins outside, or while a visit is held
+  -- a step that begins outside, or while a visit is held: the visit stays as it is, a reset drops it, or RETI resumes the module,
+  -- where the return padding goes on from the time after RETI's cycles
   pub data Service (m : Machine) (mem : List ℕ) (s : Step) : Type 0 where
     kept : s .machine .visit ≡ m .visit → inside L (s .machine .previous) ≡ false → isReset (s .outcome) ≡ false
         → isResuming (s .outcome) ≡ false → Service m mem s
@@ -165,10 +167,14 @@ module _ (L : Layout) (stamps : List ℕ) where
     resuming : (previous age : ℕ) → m .visit ≡ Held previous age → isReset (s .outcome) ≡ false → isResuming (s .outcome) ≡ true
         → afterReti stamps m .slot ≡ Never → Goes (afterReti stamps m) true mem age s → Service m mem s
 
-  -- a step in code or data, none being held
+  -- a step in code or data, none being held: a reset, or an instruction inside
   pub data Inner (m : Machine) (mem : List ℕ) (s : Step) : Type 0 where
     failed : judgedCycles (judged L m mem) ≡ 4 → Fallen m mem s → Inner m mem s
     went : (n : ℕ) → judgedCycles (judged L m mem) ≡ n → Goes (m .time) (gie (sr (m .registers))) mem n s → Inner m mem s
+
+-- the time after RETI's cycles is one of the time before them
+pub return-time : (stamps : List ℕ) (m n : Machine) → m .time ≡ n .time → afterReti stamps m ≡ afterReti stamps n
+return-time stamps m n e = ap (pass stamps (cyclesOf Reti)) e
 
 -- ---- where an instruction acts
 
@@ -207,13 +213,18 @@ module _ (L : Layout) (fit : accepted L ≡ true) (stamps : List ℕ) (m : Machi
 
   -- ---- the steps
 
-  vector-free : inside L vector ≡ false
-  vector-free = outside-not-inside L vector (section-outside L vector (vector-outside L vector fit (omega arith)))
-
   reset-falls : (c : Cause) → Fallen L stamps m mem (reset L stamps c m mem)
   unfolding reset
   reset-falls c =
-      record { registers = refl; previous = vector-free; time = refl; visit = refl; running = refl; memory = refl; outcome = refl }
+      record {
+        registers = refl;
+        previous = vector-free L fit;
+        time = refl;
+        visit = refl;
+        running = refl;
+        memory = refl;
+        outcome = refl;
+      }
 
   falls : ((i : Instruction) → judged L m mem ≡ acts i → ⊥) → (s : Step) → Way L stamps m mem s → Fallen L stamps m mem s
   falls none s (resets c e) = reset-falls c
@@ -227,17 +238,19 @@ module _ (L : Layout) (fit : accepted L ≡ true) (stamps : List ℕ) (m : Machi
 
   plain-serves : (x : Machine) (mem′ : List ℕ) → x .visit ≡ m .visit → Service L stamps m mem (plain L stamps x mem′)
   unfolding plain reset
-  plain-serves x mem′ h = choose (Service L stamps m mem) _ (λ e. kept h vector-free refl refl) (λ e. fell refl vector-free refl refl)
+  plain-serves x mem′ h =
+      choose (Service L stamps m mem) _ (λ e. kept h (vector-free L fit) refl refl) (λ e. fell refl (vector-free L fit) refl refl)
 
-  module _ (steady : Steady L m) (elsewhere : (i : Instruction) → judged L m mem ≡ acts i → inside L (pc (m .registers)) ≡ false) where
+  module _ (steady : Steady L m)
+      (elsewhere : (i : Instruction) → judged L m mem ≡ acts i → inside L (pc (m .registers)) ≡ false) where
     service-of : (s : Step) → Way L stamps m mem s → Service L stamps m mem s
     unfolding reset executed chained padded back
-    service-of s (resets c e) = fell refl vector-free refl refl
+    service-of s (resets c e) = fell refl (vector-free L fit) refl refl
     service-of s (halts i e h) = kept refl (elsewhere i e) refl refl
     service-of s (runs i r d) = kept refl (elsewhere i (r .acting)) refl refl
     service-of s (serves i u r n d) = plain-serves _ _ refl
     service-of s (pads i u r n d) = absurd (true≢false (sym n ∙ elsewhere i (r .acting)))
-    service-of s (chains p a u r e) = kept (sym (r .holding)) vector-free refl refl
+    service-of s (chains p a u r e) = kept (sym (r .holding)) (vector-free L fit) refl refl
     service-of s (returns p a r e d) =
         let h = holding L m p a (steady .frame) (r .holding) in
         resuming p a (r .holding) refl refl e
@@ -249,7 +262,8 @@ module _ (L : Layout) (fit : accepted L ≡ true) (stamps : List ℕ) (m : Machi
         (check-strikes L stamps (afterReti stamps m) true mem a (afterReturn L stamps m p a) mem
         (h .young) (λ _. e) refl (h .enabled) (same-refl L mem) u d)
 
-  module _ (steady : Steady L m) (running : m .halted ≡ false) (free : m .visit ≡ Free) (o : outside L (pc (m .registers)) ≡ false) where
+  module _ (steady : Steady L m) (running : m .halted ≡ false) (free : m .visit ≡ Free)
+      (o : outside L (pc (m .registers)) ≡ false) where
     confined : (i : Instruction) → judged L m mem ≡ acts i → Confined L stamps m mem i
     unfolding InsideConfined
     confined i e = inside-confined L stamps m mem i fit (acting-inside i o e) free e

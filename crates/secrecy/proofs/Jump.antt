@@ -1,0 +1,379 @@
+-- One run by itself, in the module: where it next comes into the open. Assumes nothing.
+use mathlib.Core.Path.{_≡_, refl, sym, _∙_, ap, subst}
+use mathlib.Core.Bool.{Bool, true, false}
+use mathlib.Core.List.{List, [], _∷_, _++_}
+use Prim.Native.Nat.{ℕ, _+_, _-_, _≤_, _<_}
+use native.Mathlib.Omega.{arith}
+use lib.Dec.{ltb}
+use lib.ListN.{length}
+use borrow.Author.Tests.{ltb-true, ltb-false}
+use Rattle.base.specs.Test.{any}
+use Rattle.base.proofs.Tests.{if-false}
+use Rattle.layout.specs.declared.sections.Layout.{Layout}
+use Rattle.layout.specs.Sections.{outside}
+use Rattle.layout.specs.Rules.{accepted}
+use Rattle.alu.specs.Status.{gie}
+use Rattle.machine.specs.declared.state.Stamp.the-variants.{Never}
+use Rattle.machine.specs.declared.state.Time.{Time}
+use Rattle.machine.specs.declared.state.Visit.the-variants.{Free}
+use Rattle.machine.specs.Registers.{pc, sr}
+use Rattle.machine.specs.Time.{pass, emptied}
+use Rattle.machine.specs.State.{World, isHeld}
+use Rattle.machine.specs.Interrupt.{Step}
+use Rattle.machine.specs.Run.{Move, worldAfter, stepOf}
+use Rattle.machine.specs.Laws.{PassAdds, SameOutside}
+use Rattle.machine.proofs.PassLaws.{pass-adds, pass-clock}
+use Rattle.machine.proofs.StepLaws.{judged}
+use Rattle.machine.proofs.ViewLaws.{same-trans}
+use Rattle.secrecy.specs.Sighting.{Sighting, sightings}
+use Rattle.secrecy.specs.Visit.{Way, leaving, ownReset, Fate, unended, ended, Visit, Phase, away, visiting, judgedCycles, closed, visits, fateAt}
+use Rattle.secrecy.specs.Secrecy.{complete}
+use Rattle.secrecy.proofs.Chain.{endOf, moved, next, Chain, done, more}
+use Rattle.secrecy.proofs.Ways.{Steady, steady-next, BrokenInto, Goes, walked, struck, Fallen, Inner, failed, went, inner-step}
+use Rattle.secrecy.proofs.Visiting.{moveOf, unseen, phaseAt, leaves, Good, good-away, phase-outside, phase-visiting, reset-visit, walk-visit, Least, goes-outcome, goes-good, least, silent}
+
+-- an end with this clock, these own cycles, in this way, with these registers
+abbrev pub endAt : ℕ → ℕ → Way → List ℕ → Fate
+endAt clock own way registers = ended (record { clock = clock; own = own; way = way; registers = registers })
+
+-- a visit that ends above T, if it ends, which had k own cycles at the clock value c
+unfoldable pub Beyond : ℕ → ℕ → ℕ → Fate → Type 0
+Beyond T c k unended = Unit {0}
+Beyond T c k (ended e) = T + k < c + e .own
+
+least-beyond : (T c k n : ℕ) (f : Fate) → T < c + n → Least (k + n) f → Beyond T c k f
+unfolding Beyond Least
+least-beyond T c k n unended h l = tt
+least-beyond T c k n (ended e) h l = omega arith
+
+module _ (L : Layout) (stamps : List ℕ) where
+  -- ---- n cycles on from a time that is itself some cycles on from t
+
+  module _ (t u : Time) (mem : List ℕ) (n : ℕ) (e : u ≡ pass stamps n t) where
+    later : (k : ℕ) → pass stamps k u ≡ pass stamps (n + k) t
+    unfolding PassAdds
+    later k = ap (pass stamps k) e ∙ pass-adds stamps n k t
+
+    later-clock : u .clock ≡ t .clock + n
+    later-clock = ap (λ (z : Time). z .clock) e ∙ pass-clock stamps n t
+
+    wait : (c d stamp : ℕ) → d ≡ c + n → d < stamp → n + (stamp + 6 - d) ≡ stamp + 6 - c
+    wait c d stamp h l = omega arith
+
+    goes-later : (g : Bool) (k : ℕ) (s : Step) → Goes L stamps u g mem k s → Goes L stamps t g mem (n + k) s
+    goes-later g k s (walked x) =
+        walked
+        (record {
+          time = x .time ∙ later k;
+          visit = x .visit;
+          running = x .running;
+          enabled = x .enabled;
+          previous = x .previous;
+          memory = x .memory;
+          outcome = x .outcome;
+        })
+    goes-later g k s (struck stamp on x) =
+        let c = later-clock in
+        let after = x .after in
+        let aged = x .aged in
+        struck stamp on
+        (record {
+          slot = ap (λ (z : Time). z .slot) (sym (later k)) ∙ x .slot;
+          after = omega arith;
+          time = x .time
+              ∙ ap (λ (z : Time). pass stamps 6 (emptied z))
+              (later (stamp + 6 - u .clock) ∙ ap (λ (z : ℕ). pass stamps z t) (wait (t .clock) (u .clock) stamp c after));
+          previous = x .previous;
+          age = x .age;
+          visit = x .visit;
+          aged = omega arith;
+          registers = x .registers;
+          running = x .running;
+          memory = x .memory;
+          outcome = x .outcome;
+        })
+
+  -- and with outside bytes that were the same before
+  pub goes-from : (t : Time) (g : Bool) (mem base : List ℕ) (n : ℕ) (s : Step) → SameOutside L base mem → Goes L stamps t g mem n s
+      → Goes L stamps t g base n s
+  goes-from t g mem base n s h (walked x) =
+      walked
+      (record {
+        time = x .time;
+        visit = x .visit;
+        running = x .running;
+        enabled = x .enabled;
+        previous = x .previous;
+        memory = same-trans L h (x .memory);
+        outcome = x .outcome;
+      })
+  goes-from t g mem base n s h (struck stamp on x) =
+      struck stamp on
+      (record {
+        slot = x .slot;
+        after = x .after;
+        time = x .time;
+        previous = x .previous;
+        age = x .age;
+        visit = x .visit;
+        aged = x .aged;
+        registers = x .registers;
+        running = x .running;
+        memory = same-trans L h (x .memory);
+        outcome = x .outcome;
+      })
+
+module _ (L : Layout) (stamps : List ℕ) (T : ℕ) where
+  -- the rest of a run, which has these sightings and visits and comes to this end
+  pub record Rest (ss : List Sighting) (xs : List Visit) (end : World) (len : ℕ) : Type 0 where
+    pub world : World
+    pub phase : Phase
+    pub moves : List Move
+    pub chain : Chain L stamps world moves
+    pub good : Good L (world .machine) phase
+    pub running : world .machine .halted ≡ false
+    pub sights : ss ≡ sightings L T moves
+    pub visited : xs ≡ visits L phase moves
+    pub ends : end ≡ endOf world moves
+    pub shorter : length moves < len
+
+  -- the base, the last point that is known from outside: its time t, the own cycles k there, GIE, and the outside bytes
+  module _ (t : Time) (k : ℕ) (g : Bool) (base : List ℕ) where
+    -- n cycles in from the base
+    pub record Within (n start : ℕ) (w : World) (p : Phase) : Type 0 where
+      pub visit : w .machine .visit ≡ Free
+      pub running : w .machine .halted ≡ false
+      pub time : w .machine .time ≡ pass stamps n t
+      pub enabled : gie (sr (w .machine .registers)) ≡ g
+      pub phase : phaseAt L (w .machine) p ≡ visiting start (k + n)
+      pub memory : SameOutside L base (w .memory)
+
+    -- no request is pending n cycles in, where one would be served
+    abbrev pub Unasked : ℕ → Type 0
+    Unasked n = g ≡ true → pass stamps n t .slot ≡ Never
+
+    -- where the run next comes into the open
+    pub data Emerges (ss : List Sighting) (xs : List Visit) (end : World) (len : ℕ) : Type 0 where
+      -- it stops before
+      short : ss ≡ [] → complete T end ≡ false → Emerges ss xs end len
+      -- not up to T
+      late : (n : ℕ) → T < t .clock + n + 4 → Unasked n → ss ≡ [] → Beyond T (t .clock) k (fateAt xs 0) → Emerges ss xs end len
+      -- it leaves after n cycles
+      departed : (n start : ℕ) (r : Rest ss xs end len) → t .clock + n ≤ T → Unasked n
+          → r .world .machine .time ≡ pass stamps n t → r .world .machine .visit ≡ Free
+          → outside L (pc (r .world .machine .registers)) ≡ true → r .phase ≡ visiting start (k + n)
+          → SameOutside L base (r .world .memory)
+          → fateAt xs 0 ≡ endAt (t .clock + n) (k + n) leaving (r .world .machine .registers) → Emerges ss xs end len
+      -- its own reset, begun after n cycles
+      ownFall : (n : ℕ) (x : Visit) (ys : List Visit) → xs ≡ x ∷ ys → (r : Rest ss ys end len) → t .clock + n + 4 ≤ T → Unasked n
+          → r .world .machine .time ≡ emptied (pass stamps 4 (pass stamps n t)) → r .world .machine .visit ≡ Free
+          → r .phase ≡ away → SameOutside L base (r .world .memory)
+          → x .fate ≡ endAt (t .clock + n + 4) (k + n + 4) ownReset (r .world .machine .registers) → Emerges ss xs end len
+      -- a request breaks in, found after n cycles
+      served : (n start stamp : ℕ) (s : Step) (r : Rest ss xs end len) → g ≡ true → BrokenInto L stamps t base n stamp s
+          → r .world ≡ worldAfter s → r .phase ≡ visiting start (k + n) → Emerges ss xs end len
+
+module _ (L : Layout) (fit : accepted L ≡ true) (stamps : List ℕ) (T : ℕ) (t : Time) (k : ℕ) (g : Bool) (base : List ℕ) where
+  -- n cycles in from this base
+  abbrev pub In : ℕ → ℕ → World → Phase → Type 0
+  In n start w p = Within L stamps T t k g base n start w p
+
+  -- where a run from this world and phase next comes into the open
+  abbrev pub Jumps : World → Phase → List Move → ℕ → Type 0
+  Jumps w p vs len = Emerges L stamps T t k g base (sightings L T vs) (visits L p vs) (endOf w vs) len
+
+  unasked : {n start : ℕ} {w : World} {p : Phase} → Steady L (w .machine) → In n start w p
+      → Unasked L stamps T t k g base n
+  unasked a b e = ap (λ (z : Time). z .slot) (sym (b .time)) ∙ a .quiet (b .running) (b .enabled ∙ e)
+
+  clock-in : {n start : ℕ} {w : World} {p : Phase} → In n start w p → w .machine .time .clock ≡ t .clock + n
+  clock-in {n = n} b = ap (λ (z : Time). z .clock) (b .time) ∙ pass-clock stamps n t
+
+  -- the run stops here
+  module _ (n start len : ℕ) (w : World) (p : Phase) (a : Steady L (w .machine)) (b : In n start w p) where
+    ends-open : (q : Phase) → Beyond T (t .clock) k (fateAt (visits L q []) 0)
+    unfolding visits Beyond
+    ends-open away = tt
+    ends-open (visiting s j) = tt
+
+    incomplete : ltb T (w .machine .time .clock) ≡ false → complete T w ≡ false
+    unfolding any
+    incomplete e = if-false _ _ _ e ∙ if-false _ _ _ (b .running)
+
+    stops : (y : Bool) → ltb T (w .machine .time .clock) ≡ y → Emerges L stamps T t k g base [] (visits L p []) w len
+    stops true e =
+        let c = clock-in b in
+        let h = ltb-true T (w .machine .time .clock) e in
+        late n (omega arith) (unasked a b) refl (ends-open p)
+    stops false e = short refl (incomplete e)
+
+  module _ (n start len : ℕ) (w : World) (p : Phase) (vs : List Move) (a : Good L (w .machine) p)
+      (b : In n start w p) where
+    -- the clock is above T
+    is-late : Chain L stamps w vs → T < w .machine .time .clock
+        → Jumps w p vs len
+    is-late c h =
+        let q = clock-in b in
+        late n (omega arith) (unasked (a .steady) b) (silent L stamps fit T c (a .steady) h)
+        (least-beyond T (t .clock) k n _ (omega arith) (least L stamps fit p start (k + n) c a (b .phase)))
+
+    -- the step begins outside
+    departs : (c : Chain L stamps w (moved L stamps w ∷ vs)) → w .machine .time .clock ≤ T
+        → outside L (pc (w .machine .registers)) ≡ true
+        → length vs + 1 < len
+        → Jumps w p (moved L stamps w ∷ vs) len
+    departs c h o l =
+        let q = clock-in b in
+        let e : p ≡ visiting start (k + n) = sym (phase-outside L (w .machine) p o) ∙ b .phase in
+        let x : visits L p (moved L stamps w ∷ vs)
+        ≡ record { start = start; fate = endAt (w .machine .time .clock) (k + n + 0) leaving (w .machine .registers) }
+        ∷ visits L away vs =
+        leaves L p (moved L stamps w) vs (ap isHeld (b .visit)) o
+        ∙ ap (λ (z : Phase). closed z (w .machine .time .clock) 0 leaving (w .machine .registers) ++ visits L away vs) e
+        in
+        let r : Rest L stamps T (sightings L T (moved L stamps w ∷ vs)) (visits L p (moved L stamps w ∷ vs))
+        (endOf w (moved L stamps w ∷ vs)) len =
+        record {
+          world = w;
+          phase = p;
+          moves = moved L stamps w ∷ vs;
+          chain = c;
+          good = a;
+          running = b .running;
+          sights = refl;
+          visited = refl;
+          ends = refl;
+          shorter = omega arith;
+        } in
+        departed n start r (omega arith) (unasked (a .steady) b) (b .time) (b .visit) o e (b .memory)
+        (ap (λ (z : List Visit). fateAt z 0) x
+        ∙ ap (λ (z : ℕ). endAt z (k + n + 0) leaving (w .machine .registers)) q
+        ∙ ap (λ (z : ℕ). endAt (t .clock + n) z leaving (w .machine .registers)) (plus-zero (k + n)))
+      where
+        plus-zero : (z : ℕ) → z + 0 ≡ z
+        plus-zero z = omega arith
+
+  -- a step that goes on in the module, or is broken into there, n cycles in from the base
+  pub goes-emerges : (n start len : ℕ) (s : Step) (vs : List Move) (ss : List Sighting) (xs : List Visit) → Steady L (s .machine)
+      → Chain L stamps (worldAfter s) vs → length vs < len → ss ≡ sightings L T vs → xs ≡ visits L (visiting start (k + n)) vs
+      → (Good L (s .machine) (visiting start (k + n)) → In n start (worldAfter s) (visiting start (k + n))
+      → Jumps (worldAfter s) (visiting start (k + n)) vs len)
+      → Goes L stamps t g base n s → Emerges L stamps T t k g base ss xs (endOf (worldAfter s) vs) len
+  goes-emerges n start len s vs ss xs a c l e f rec (walked x) =
+      let good = goes-good L stamps t g base n start (k + n) s a (walked x) in
+      rw (e, f)
+      (rec good
+      (record {
+        visit = x .visit;
+        running = x .running;
+        time = x .time;
+        enabled = x .enabled;
+        phase = phase-visiting L (s .machine) start (k + n) (good .phase);
+        memory = x .memory;
+      }))
+  goes-emerges n start len s vs ss xs a c l e f rec (struck stamp on x) =
+      served n start stamp s
+      (record {
+        world = worldAfter s;
+        phase = visiting start (k + n);
+        moves = vs;
+        chain = c;
+        good = goes-good L stamps t g base n start (k + n) s a (struck stamp on x);
+        running = x .running;
+        sights = e;
+        visited = f;
+        ends = refl;
+        shorter = l;
+      })
+      on x refl refl
+
+  -- a step in code or data
+  module _ (n start len : ℕ) (w : World) (p : Phase) (vs : List Move) (a : Good L (w .machine) p)
+      (b : In n start w p) (o : outside L (pc (w .machine .registers)) ≡ false) (l : length vs < len) where
+    abbrev Goal : Step → Type 0
+    Goal s = Jumps w p (moveOf w s ∷ vs) len
+
+    reset-clock : (s : Step) → Fallen L stamps (w .machine) (w .memory) s → s .machine .time .clock ≡ t .clock + n + 4
+    unfolding emptied pass
+    reset-clock s x = let q = clock-in b in let z = ap (λ (u : Time). u .clock) (x .time) in omega arith
+
+    fails : (s : Step) → judgedCycles (judged L (w .machine) (w .memory)) ≡ 4 → Fallen L stamps (w .machine) (w .memory) s
+        → Steady L (s .machine)
+        → Chain L stamps (worldAfter s) vs → (y : Bool) → ltb T (s .machine .time .clock) ≡ y → Goal s
+    unfolding Beyond endOf
+    fails s f x i d true e =
+        let q = reset-clock s x in
+        let h = ltb-true T (s .machine .time .clock) e in
+        let z = reset-visit L w s p vs start (k + n) 4 (b .visit) o (b .phase) f (x .outcome) in
+        late n (omega arith) (unasked (a .steady) b) (unseen L T _ vs o ∙ silent L stamps fit T d i h)
+        (subst (λ (u : List Visit). Beyond T (t .clock) k (fateAt u 0)) (sym z) (omega arith))
+    fails s f x i d false e =
+        let q = reset-clock s x in
+        let h = ltb-false T (s .machine .time .clock) e in
+        let z = reset-visit L w s p vs start (k + n) 4 (b .visit) o (b .phase) f (x .outcome) in
+        let r : Rest L stamps T (sightings L T (moveOf w s ∷ vs)) (visits L away vs) (endOf (worldAfter s) vs) len =
+        record {
+          world = worldAfter s;
+          phase = away;
+          moves = vs;
+          chain = d;
+          good = good-away L _ i (x .visit) (x .previous);
+          running = x .running;
+          sights = unseen L T _ vs o;
+          visited = refl;
+          ends = refl;
+          shorter = l;
+        } in
+        ownFall n _ _ z r (omega arith) (unasked (a .steady) b)
+        (x .time ∙ ap (λ (u : Time). emptied (pass stamps 4 u)) (b .time)) (x .visit) refl
+        (subst (SameOutside L base) (sym (x .memory)) (b .memory))
+        (ap (λ (u : ℕ). endAt u (k + n + 4) ownReset (s .machine .registers)) q)
+
+    goes-on : (s : Step) (n′ : ℕ) → judgedCycles (judged L (w .machine) (w .memory)) ≡ n′
+        → Goes L stamps (w .machine .time) (gie (sr (w .machine .registers))) (w .memory) n′ s → Steady L (s .machine)
+        → Chain L stamps (worldAfter s) vs
+        → (Good L (s .machine) (visiting start (k + (n + n′)))
+        → In (n + n′) start (worldAfter s) (visiting start (k + (n + n′)))
+        → Jumps (worldAfter s) (visiting start (k + (n + n′))) vs len)
+        → Goal s
+    unfolding endOf
+    goes-on s n′ f x i c rec =
+        goes-emerges (n + n′) start len s vs _ _ i c l (unseen L T (moveOf w s) vs o)
+        (walk-visit L w s p vs start (k + n) n′ (b .visit) o (b .phase) f (goes-outcome L stamps _ _ _ _ s x)
+        ∙ ap (λ (z : ℕ). visits L (visiting start z) vs) grown)
+        rec
+        (goes-from L stamps t g (w .memory) base (n + n′) s (b .memory)
+        (goes-later L stamps t (w .machine .time) (w .memory) n (b .time) g n′ s
+        (subst (λ (z : Bool). Goes L stamps (w .machine .time) z (w .memory) n′ s) (b .enabled) x)))
+      where
+        grown : k + n + n′ ≡ k + (n + n′)
+        grown = omega arith
+
+    inner-emerges : (s : Step) → Steady L (s .machine) → Chain L stamps (worldAfter s) vs
+        → ((n′ : ℕ) → Good L (s .machine) (visiting start (k + n′)) → In n′ start (worldAfter s) (visiting start (k + n′))
+        → Jumps (worldAfter s) (visiting start (k + n′)) vs len)
+        → Inner L stamps (w .machine) (w .memory) s → Goal s
+    inner-emerges s i c rec (failed f x) = fails s f x i c _ refl
+    inner-emerges s i c rec (went n′ f x) = goes-on s n′ f x i c (rec (n + n′))
+
+  -- from inside, where the run next comes into the open
+  pub jump : {w : World} {vs : List Move} (n start len : ℕ) (p : Phase) → Chain L stamps w vs → Good L (w .machine) p
+      → In n start w p → length vs ≤ len → (outside L (pc (w .machine .registers)) ≡ true → length vs < len)
+      → Jumps w p vs len
+  unfolding sightings endOf
+  jump {w} n start len p done a b l s = stops n start len w p (a .steady) b _ refl
+  jump {w} n start len p (more {vs = vs} r c) a b l s =
+      go (ltb T (w .machine .time .clock)) refl (outside L (pc (w .machine .registers))) refl
+      (λ n′ x y. jump n′ start len (visiting start (k + n′)) c x y (omega arith) (λ z. omega arith))
+    where
+      go : (y : Bool) → ltb T (w .machine .time .clock) ≡ y → (z : Bool) → outside L (pc (w .machine .registers)) ≡ z
+          → ((n′ : ℕ) → Good L (stepOf L stamps w .machine) (visiting start (k + n′))
+          → In n′ start (next L stamps w) (visiting start (k + n′))
+          → Jumps (next L stamps w) (visiting start (k + n′)) vs len)
+          → Jumps w p (moved L stamps w ∷ vs) len
+      go true e z o rec = is-late n start len w p (moved L stamps w ∷ vs) a b (more r c) (ltb-true _ _ e)
+      go false e true o rec = departs n start len w p vs a b (more r c) (ltb-false _ _ e) o (let x = s o in omega arith)
+      go false e false o rec =
+          inner-emerges n start len w p vs a b o (omega arith) (stepOf L stamps w)
+          (steady-next L stamps (w .machine) (w .memory) fit r (a .steady)) c rec
+          (inner-step L fit stamps (w .machine) (w .memory) (a .steady) r (b .visit) o)
