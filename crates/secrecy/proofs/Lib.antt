@@ -7,4 +7,5 @@ pub mod Abreast
 pub mod Together
 pub mod Secrecy
 pub mod Lasting
+pub mod FromStart
 pub mod Example
