@@ -48,6 +48,13 @@ unfolding if_then_else_
 choose P true p q = p refl
 choose P false p q = q refl
 
+-- two choices by one test are related where both branches are
+pub choose-both : {A B : Type 0} (R : A → B → Type 0) (t : Bool) {a c : A} {b d : B} → (t ≡ true → R a b) → (t ≡ false → R c d)
+    → R (if t then a else c) (if t then b else d)
+unfolding if_then_else_
+choose-both R true p q = p refl
+choose-both R false p q = q refl
+
 -- what a test `!f()` of the code says of the test that `f` answers
 pub fails : {r t : Bool} → r ≡ t → not r ≡ true → t ≡ false
 fails {r} e h = sym e ∙ not-true r h

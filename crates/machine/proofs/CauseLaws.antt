@@ -1,5 +1,5 @@
 -- The causes hide what they bar: neither a barred word nor a second word on another side is read. Assumes nothing.
-use mathlib.Core.Path.{_≡_, refl, sym, _∙_, ap}
+use mathlib.Core.Path.{_≡_, refl, _∙_, ap}
 use mathlib.Core.Bool.{Bool, true, false, not}
 use mathlib.Core.List.{List, [], _∷_}
 use Prim.Native.Nat.{ℕ}
@@ -10,12 +10,11 @@ use Rattle.isa.specs.declared.read.Begun.the-variants.{Nothing, Found}
 use Rattle.isa.specs.Words.{begun, twoWords}
 use Rattle.layout.specs.declared.sections.Layout.{Layout}
 use Rattle.layout.specs.declared.access.Right.the-variants.{Execute as execute}
-use Rattle.layout.specs.Sections.{inside, sameSide}
+use Rattle.layout.specs.Sections.{inside}
 use Rattle.layout.specs.Access.{may}
-use Rattle.machine.specs.declared.answer.Cause.the-variants.{Execute, Reentry, SecondSide, Inside}
 use Rattle.machine.specs.Memory.{wordAt}
 use Rattle.machine.specs.Registers.{pc}
-use Rattle.machine.specs.Judge.{Judged, faulty, judgeAct, judgeSecond, judgeFirst, judge}
+use Rattle.machine.specs.Judge.{judgeAct, judgeSecond, judgeFirst, judge}
 use Rattle.machine.specs.Laws.{BarredUnread, NoReentry, SecondElsewhereUnread, PrivilegedInside}
 
 pub barred-unread : BarredUnread
@@ -36,7 +35,7 @@ no-reentry L rs mem previous h i = if-false _ _ _ (ap not h) ∙ if-true _ _ _ (
 second-judged : (L : Layout) (held : Bool) (rs mem : List ℕ) (b : Begun) → twoWords b ≡ true
     → judgeFirst L held rs mem b ≡ judgeSecond L held rs mem b
 unfolding judgeFirst twoWords
-second-judged L held rs mem Nothing h = absurd (mathlib.Core.Bool.false≢true h)
+second-judged L held rs mem Nothing h = cc
 second-judged L held rs mem (Found r s d) h = refl
 
 pub second-elsewhere-unread : SecondElsewhereUnread

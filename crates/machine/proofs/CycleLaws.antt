@@ -16,7 +16,7 @@ use Rattle.machine.specs.Step.{step}
 use Rattle.machine.specs.Laws.{StepCycles, HaltedStays}
 use Rattle.machine.proofs.InstructionLaws.{cycles-range}
 use Rattle.machine.proofs.StepLaws.{next, Way, resets, halts, runs, serves, pads, chains, returns, padsAgain, way, next-clock}
-use Rattle.machine.proofs.QuietLaws.{held-framed}
+use Rattle.machine.proofs.FrameLaws.{held-framed}
 
 -- the step adds from least to most cycles to the clock c
 pub record Adds (least most c : ℕ) (s : Step) : Type 0 where
@@ -53,9 +53,9 @@ module _ (L : Layout) (stamps : List ℕ) where
     way-adds s (serves i u r o d) = let k = next-range i in after (plain-adds _ _) (omega arith) (omega arith)
     way-adds s (pads i u r o d) = let k = next-range i in after (padded-adds u _ _) (omega arith) (omega arith)
     way-adds s (chains p a u r d) = omega arith
-    way-adds s (returns p a r n d) = let k = held-framed L m p a f (r .holding) .0 in omega arith
+    way-adds s (returns p a r n d) = let k = held-framed L m p a f (r .holding) .age-bound in omega arith
     way-adds s (padsAgain p a u r n d) =
-        let k = held-framed L m p a f (r .holding) .0 in after (padded-adds u _ mem) (omega arith) (omega arith)
+        let k = held-framed L m p a f (r .holding) .age-bound in after (padded-adds u _ mem) (omega arith) (omega arith)
 
 pub step-cycles : StepCycles
 unfolding StepCycles

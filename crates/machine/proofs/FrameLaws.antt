@@ -1,5 +1,5 @@
 -- The frame holds at the start and after every step: after one call, only refusals 5 and 6 are left. Assumes nothing.
-use mathlib.Core.Path.{_≡_, refl, _∙_, ap, subst}
+use mathlib.Core.Path.{_≡_, refl, sym, _∙_, ap}
 use mathlib.Core.Bool.{Bool, true}
 use mathlib.Core.Logic.{_⊎_, inl, inr}
 use mathlib.Core.List.{List}
@@ -7,38 +7,40 @@ use Prim.Native.Nat.{ℕ, _-_, _%_, _≤_, min}
 use native.Mathlib.Omega.{arith}
 use lib.Dec.{leb, eqb}
 use borrow.Author.Tests.{eqb-true, eq-eqb, leb-true, le-leb}
-use Rattle.base.specs.Word.{even, isEven}
+use Rattle.base.specs.Word.{even, isEven, difference16}
 use Rattle.base.specs.declared.refusal.Refusal.the-variants.{Distance, Clock}
-use Rattle.base.proofs.Tests.{cases, each, every, if-true, if-false, choose}
+use Rattle.base.proofs.Tests.{each, every, if-true, choose}
 use Rattle.isa.specs.declared.instruction.Instruction.{Instruction}
 use Rattle.layout.specs.declared.sections.Layout.{Layout}
 use Rattle.layout.specs.Sections.{inside}
 use Rattle.layout.specs.Rules.{accepted}
 use Rattle.layout.proofs.RuleLaws.{accepted-rules}
 use Rattle.alu.specs.Status.{gie}
-use Rattle.machine.specs.declared.state.Stamp.the-variants.{Never, At}
+use Rattle.machine.specs.declared.state.Stamp.the-variants.{At}
+use Rattle.machine.specs.declared.state.Time.{Time}
 use Rattle.machine.specs.declared.state.Visit.{Visit}
 use Rattle.machine.specs.declared.state.Visit.the-variants.{Free, Held}
 use Rattle.machine.specs.declared.state.Machine.{Machine}
 use Rattle.machine.specs.declared.answer.Cause.{Cause}
-use Rattle.machine.specs.declared.answer.Outcome.{Outcome}
 use Rattle.machine.specs.Memory.{wordAt}
-use Rattle.machine.specs.Registers.{sr}
-use Rattle.machine.specs.State.{World, world, vector, resetAddress, start, framedRegisters, framedVisit, framed}
-use Rattle.machine.specs.Interrupt.{Step, ageOf, due, reset, padded, chained, back}
+use Rattle.machine.specs.Registers.{sp, sr, cleared}
+use Rattle.machine.specs.Time.{pass, emptied}
+use Rattle.machine.specs.State.{World, world, vector, resetAddress, start, framedVisit, framed}
+use Rattle.machine.specs.Interrupt.{Step, serving, ageOf, due, reset, plain, padded, chained, back}
 use Rattle.machine.specs.Step.{savedFor, executed}
 use Rattle.machine.specs.Run.{stepOf, worldAfter}
 use Rattle.machine.specs.Calls.{wholeMemory, timetable, Verdict, taken, refused, verdict}
 use Rattle.machine.specs.Laws.{FramedAtStart, FrameKept, LengthKept, Sound, OnlyDistanceOrClock}
-use Rattle.machine.proofs.ActCases.{time-after}
-use Rattle.machine.proofs.StepCases.{Returns, low, Check, quiet, pads, pushes, barred, Way, idle, faults, halts, runs, chains, returns, way-of}
+use Rattle.machine.proofs.InstructionLaws.{halts-or-alarms}
+use Rattle.machine.proofs.StepLaws.{next, afterReturn, Way, resets, halts, runs, serves, pads, chains, returns, padsAgain, step-case}
+use Rattle.machine.proofs.GieLaws.{due-at}
 use Rattle.machine.proofs.TouchLaws.{length-kept}
-use Rattle.machine.proofs.RegisterFrame.{set-framed, registers-framed, cleared-framed}
+use Rattle.machine.proofs.RegisterFrame.{FramedRegisters, set-framed, registers-framed, cleared-framed}
 use Rattle.machine.proofs.TimeFrame.{FramedTime, pass-framed, emptied-framed, alarm-framed}
 
 -- the frame's parts
 pub record Framed (L : Layout) (m : Machine) : Type 0 where
-  pub registers : framedRegisters (m .registers) ≡ true
+  pub registers : FramedRegisters (m .registers)
   pub previous : isEven (m .previous) ≡ true
   pub time : FramedTime (m .time)
   pub visit : framedVisit L (m .saved) (m .visit) ≡ true
@@ -61,15 +63,15 @@ frame-whole L m f = every _ (f .registers, (f .previous, (f .time .slot, (f .tim
 -- and those of a held visit
 pub record FramedHeld (L : Layout) (saved : List ℕ) (previous age : ℕ) : Type 0 where
   pub age-bound : age ≤ 6
-  pub registers : framedRegisters saved ≡ true
+  pub registers : FramedRegisters saved
   pub gie-set : gie (sr saved) ≡ true
   pub previous-inside : inside L previous ≡ true
   pub previous-even : isEven previous ≡ true
 
-pub held-parts : (L : Layout) (saved : List ℕ) (previous age : ℕ) → framedVisit L saved (Held previous age) ≡ true
-    → FramedHeld L saved previous age
-held-parts L saved previous age e =
-    let h = each _ e in
+pub held-framed : (L : Layout) (m : Machine) (previous age : ℕ) → framed L m ≡ true → m .visit ≡ Held previous age
+    → FramedHeld L (m .saved) previous age
+held-framed L m previous age f e =
+    let h = each _ (sym (ap (framedVisit L (m .saved)) e) ∙ frame-parts L m f .visit) in
     record {
       age-bound = leb-true _ _ (h .0);
       registers = h .1 .0;
@@ -100,13 +102,8 @@ framed-at-start L mem =
 
 -- ---- a step
 
--- an interrupt is due only where GIE is set
-pub due-gie : (m : Machine) (s : ℕ) → due m ≡ At s → gie (sr (m .registers)) ≡ true
-unfolding due
-due-gie m s e = cases (gie (sr (m .registers))) (λ g. g) (λ g. cc (if-false _ (m .time .slot) Never g))
-
 -- an age is at most 6
-pub age-framed : (clock stamp : ℕ) → leb (ageOf clock stamp) 6 ≡ true
+age-framed : (clock stamp : ℕ) → leb (ageOf clock stamp) 6 ≡ true
 unfolding ageOf
 age-framed clock stamp = le-leb (min (clock - stamp) 6) 6 (omega arith)
 
@@ -124,74 +121,87 @@ module _ (L : Layout) (stamps : List ℕ) (v : accepted L ≡ true) where
         visit = refl;
       }
 
-  -- an interrupt check, after an instruction at the previous address
-  check-framed : {b : Bool} {o : Outcome} {m : Machine} {mem : List ℕ} {s : Step} → (b ≡ true → inside L (m .previous) ≡ true)
-      → Framed L m → Check L stamps b o m mem s → Framed L (s .machine)
-  unfolding padded
-  check-framed i f (quiet e) = f
-  check-framed {m = m} i f (pads s b e) =
+  -- a service that starts with its registers cleared
+  served-framed : (t : Time) (visit : Visit) (saved : List ℕ) → FramedTime t → framedVisit L saved visit ≡ true
+      → Framed L (serving (cleared (L .service)) (pass stamps 6 (emptied t)) visit saved)
+  served-framed t visit saved f h =
       record {
         registers = cleared-framed _ service-even;
         previous = refl;
-        time = pass-framed stamps 6 _ (emptied-framed _ (pass-framed stamps _ _ (f .time)));
-        visit = every _ (age-framed _ s, (f .registers, (due-gie m s e, (i b, (f .previous, tt)))));
+        time = pass-framed stamps 6 _ (emptied-framed _ f);
+        visit = h;
       }
-  check-framed {m = m} i f (pushes s b e h l) =
-      record {
+
+  padded-framed : (s : ℕ) (m : Machine) (mem : List ℕ) → due m ≡ At s → inside L (m .previous) ≡ true → Framed L m
+      → Framed L (padded L stamps s m mem .machine)
+  unfolding padded
+  padded-framed s m mem d h f =
+      served-framed _ _ _ (pass-framed stamps _ _ (f .time))
+      (every _ (age-framed _ s, (f .registers, (due-at m s d .0, (h, (f .previous, tt))))))
+
+  plain-framed : (m : Machine) (mem : List ℕ) → Framed L m → Framed L (plain L stamps m mem .machine)
+  unfolding plain
+  plain-framed m mem f =
+      let low = difference16 (sp (m .registers)) 4 in
+      choose (λ (s : Step). Framed L (s .machine)) _
+      (λ e. record {
         registers = set-framed _ 0 (L .service) (omega (arith, eqb-true, service-even))
-            (set-framed _ 2 0 (omega arith) (set-framed _ 1 (low m) (omega (arith, eqb-true, each _ (f .registers) .1 .0)) (f .registers)));
+            (set-framed _ 2 0 (omega arith) (set-framed _ 1 low (omega (arith, eqb-true, each _ (f .registers) .1 .0)) (f .registers)));
         previous = refl;
         time = pass-framed stamps 6 _ (emptied-framed _ (f .time));
         visit = f .visit;
-      }
-  check-framed {m = m} {mem = mem} i f (barred s b e n) = reset-framed _ m mem (f .time)
+      })
+      (λ e. reset-framed _ m mem (f .time))
 
   saved-framed : (visit : Visit) (saved : List ℕ) → framedVisit L saved visit ≡ true
       → framedVisit L (savedFor visit saved) visit ≡ true
   saved-framed Free saved e = refl
   saved-framed (Held previous age) saved e = e
 
-  pub executed-framed : (m : Machine) (mem : List ℕ) (i : Instruction) → Framed L m → Framed L (executed L stamps m mem i)
-  unfolding executed
-  executed-framed m mem i f =
-      record {
-        registers = registers-framed _ _ _ mem i (f .registers);
-        previous = each _ (f .registers) .0;
-        time = let t = pass-framed stamps _ _ (f .time) in time-after FramedTime _ i _ t (λ s e. alarm-framed _ _ t);
-        visit = saved-framed (m .visit) (m .saved) (f .visit);
-      }
+  module _ (m : Machine) (mem : List ℕ) (e : framed L m ≡ true) where
+    parts : Framed L m
+    parts = frame-parts L m e
 
-  -- the visit that a RETI returns to
-  pub held-framed : {m : Machine} {mem : List ℕ} {previous age : ℕ} → Framed L m → Returns L m mem previous age
-      → framedVisit L (m .saved) (Held previous age) ≡ true
-  held-framed {m} f r = subst (λ (x : Visit). framedVisit L (m .saved) x ≡ true) (r .held) (f .visit)
+    pub next-framed : (i : Instruction) → Framed L (next L stamps m mem i)
+    unfolding executed
+    next-framed i =
+        let t = pass-framed stamps _ _ (parts .time) in
+        record {
+          registers = registers-framed _ _ _ mem i (parts .registers);
+          previous = each _ (parts .registers) .0;
+          time = halts-or-alarms _ _ (λ (h : Bool). FramedTime) i t (λ p. (t, λ w. alarm-framed w _ t));
+          visit = saved-framed (m .visit) (m .saved) (parts .visit);
+        }
 
-  pub way-framed : {m : Machine} {mem : List ℕ} {s : Step} → Framed L m → Way L stamps m mem s → Framed L (s .machine)
-  unfolding executed chained back
-  way-framed f (idle h) = f
-  way-framed {m} {mem} f (faults c r e) = reset-framed c m mem (f .time)
-  way-framed {m} {mem} f (halts i a h) = executed-framed m mem i f
-  way-framed {m} {mem} f (runs i a h c) = check-framed (λ b. b) (executed-framed m mem i f) c
-  way-framed f (chains previous age s r e) =
-      record {
-        registers = cleared-framed _ service-even;
-        previous = refl;
-        time = pass-framed stamps 6 _ (emptied-framed _ (pass-framed stamps _ _ (f .time)));
-        visit = held-framed f r;
-      }
-  way-framed f (returns previous age r e c) =
-      let h = held-parts L _ previous age (held-framed f r) in
-      check-framed (λ b. h .previous-inside)
-      (record {
-        registers = h .registers;
-        previous = h .previous-even;
-        time = pass-framed stamps age _ (pass-framed stamps _ _ (f .time));
-        visit = refl;
-      }) c
+    return-framed : (previous age : ℕ) → m .visit ≡ Held previous age → Framed L (afterReturn L stamps m previous age)
+    unfolding back
+    return-framed previous age v =
+        let h = held-framed L m previous age e v in
+        record {
+          registers = h .registers;
+          previous = h .previous-even;
+          time = pass-framed stamps age _ (pass-framed stamps _ _ (parts .time));
+          visit = refl;
+        }
+
+    way-framed : (s : Step) → Way L stamps m mem s → Framed L (s .machine)
+    unfolding executed chained back
+    way-framed s (resets c e) = reset-framed c m mem (parts .time)
+    way-framed s (halts i e h) = next-framed i
+    way-framed s (runs i r d) = next-framed i
+    way-framed s (serves i u r o d) = plain-framed _ _ (next-framed i)
+    way-framed s (pads i u r o d) = padded-framed u _ _ d o (next-framed i)
+    way-framed s (chains p a u r d) =
+        served-framed _ _ _ (pass-framed stamps _ _ (parts .time)) (sym (ap (framedVisit L (m .saved)) (r .holding)) ∙ parts .visit)
+    way-framed s (returns p a r n d) = return-framed p a (r .holding)
+    way-framed s (padsAgain p a u r n d) =
+        padded-framed u _ mem d (held-framed L m p a e (r .holding) .previous-inside) (return-framed p a (r .holding))
 
 pub frame-kept : FrameKept
 unfolding FrameKept
-frame-kept L stamps m mem v f = frame-whole L _ (way-framed L stamps v (frame-parts L m f) (way-of L stamps m mem))
+frame-kept L stamps m mem v e =
+    frame-whole L _
+    (step-case L stamps m mem (λ (s : Step). Framed L (s .machine)) (λ h. frame-parts L m e) (way-framed L stamps v m mem e))
 
 -- ---- calls
 

@@ -1,6 +1,6 @@
 -- What is known of every instruction: its cycles, and the few that do more than act. Assumes nothing.
-use mathlib.Core.Path.{_≡_, refl}
-use mathlib.Core.Bool.{true, false}
+use mathlib.Core.Path.{_≡_, refl, sym, _∙_}
+use mathlib.Core.Bool.{Bool, true, false, true≢false}
 use mathlib.Core.List.{List}
 use Prim.Native.Nat.{ℕ, _≤_}
 use native.Mathlib.Omega.{arith}
@@ -42,31 +42,29 @@ is-reti (Compute o s d) e = cc
 is-reti (Not d) e = cc
 
 module _ (rs : List ℕ) (t : Time) where
+  -- HLT halts and OUT sets the alarm, no other instruction does either, and both are barred inside
+  pub halts-or-alarms : (P : Bool → Time → Type 0) (i : Instruction) → P false t
+      → (privileged i ≡ true → P true t × ((w : ℕ) → P false (setAlarm w t))) → P (isHlt i) (alarmed rs i t)
+  halts-or-alarms P Hlt p q = q refl .0
+  halts-or-alarms P (In d) p q = p
+  halts-or-alarms P (Out s) p q = q refl .1 _
+  halts-or-alarms P (Jz s) p q = p
+  halts-or-alarms P Reti p q = p
+  halts-or-alarms P Nop p q = p
+  halts-or-alarms P (Jmp s) p q = p
+  halts-or-alarms P (Mov o d) p q = p
+  halts-or-alarms P (Store s d) p q = p
+  halts-or-alarms P (Compute o s d) p q = p
+  halts-or-alarms P (Not d) p q = p
+
   -- setting the alarm takes no time and leaves the slot
   pub alarmed-else : (i : Instruction) → (alarmed rs i t .clock ≡ t .clock) × (alarmed rs i t .slot ≡ t .slot)
   unfolding setAlarm
-  alarmed-else Hlt = (refl, refl)
-  alarmed-else (In d) = (refl, refl)
-  alarmed-else (Out s) = (refl, refl)
-  alarmed-else (Jz s) = (refl, refl)
-  alarmed-else Reti = (refl, refl)
-  alarmed-else Nop = (refl, refl)
-  alarmed-else (Jmp s) = (refl, refl)
-  alarmed-else (Mov o d) = (refl, refl)
-  alarmed-else (Store s d) = (refl, refl)
-  alarmed-else (Compute o s d) = (refl, refl)
-  alarmed-else (Not d) = (refl, refl)
+  alarmed-else i =
+      halts-or-alarms (λ (h : Bool) (x : Time). (x .clock ≡ t .clock) × (x .slot ≡ t .slot)) i (refl, refl)
+      (λ p. ((refl, refl), λ w. (refl, refl)))
 
   -- what is not barred inside neither halts nor sets the alarm
   pub unprivileged : (i : Instruction) → privileged i ≡ false → (isHlt i ≡ false) × (alarmed rs i t ≡ t)
-  unprivileged Hlt e = (e, refl)
-  unprivileged (In d) e = (refl, refl)
-  unprivileged (Out s) e = (refl, cc)
-  unprivileged (Jz s) e = (refl, refl)
-  unprivileged Reti e = (refl, refl)
-  unprivileged Nop e = (refl, refl)
-  unprivileged (Jmp s) e = (refl, refl)
-  unprivileged (Mov o d) e = (refl, refl)
-  unprivileged (Store s d) e = (refl, refl)
-  unprivileged (Compute o s d) e = (refl, refl)
-  unprivileged (Not d) e = (refl, refl)
+  unprivileged i e =
+      halts-or-alarms (λ (h : Bool) (x : Time). (h ≡ false) × (x ≡ t)) i (refl, refl) (λ p. absurd (true≢false (sym p ∙ e)))

@@ -1,101 +1,119 @@
 -- What an instruction that acts has passed: none of the eight causes holds. Assumes nothing.
 use mathlib.Core.Path.{_≡_, refl, sym, _∙_, subst}
-use mathlib.Core.Bool.{Bool, true, false}
+use mathlib.Core.Bool.{Bool, true, false, true≢false}
 use mathlib.Core.List.{List, [], _∷_}
 use Prim.Native.Nat.{ℕ}
 use borrow.Author.Tests.{not-false}
 use Rattle.base.specs.Test.{if_then_else_, all}
-use Rattle.base.proofs.Tests.{cases, if-true, if-false}
+use Rattle.base.specs.Word.{even}
+use Rattle.base.proofs.Tests.{cases, each, if-true, if-false, choose}
 use Rattle.isa.specs.declared.instruction.Instruction.{Instruction}
 use Rattle.isa.specs.declared.read.Begun.{Begun}
 use Rattle.isa.specs.declared.read.Begun.the-variants.{Nothing, Found}
 use Rattle.isa.specs.declared.read.Reading.{Reading}
 use Rattle.isa.specs.declared.read.Reading.the-variants.{Decoded, Refused}
-use Rattle.isa.specs.Words.{twoWords}
 use Rattle.layout.specs.declared.sections.Layout.{Layout}
+use Rattle.layout.specs.declared.access.Right.{Right}
 use Rattle.layout.specs.declared.access.Right.the-variants.{Execute as execute, Read as read, Write as write}
 use Rattle.layout.specs.Sections.{inside}
 use Rattle.layout.specs.Access.{may}
-use Rattle.machine.specs.declared.answer.Cause.{Cause}
 use Rattle.machine.specs.Registers.{pc}
 use Rattle.machine.specs.Judge.{Judged, faulty, acts, reads, writes, allMay, privileged, isReti, judgeAct, judgeWords, judgeSecond, judgeFirst, judge}
+use Rattle.machine.proofs.InstructionLaws.{is-reti}
 
--- a cause that did not fault does not hold
-passes : (t : Bool) (c : Cause) (j : Judged) (i : Instruction) → (if t then faulty c else j) ≡ acts i → (t ≡ false) × (j ≡ acts i)
-unfolding if_then_else_
-passes true c j i e = (cc, cc)
-passes false c j i e = (refl, e)
-
--- and one that stands last
-passes-last : (t : Bool) (c : Cause) (j : Judged) (i : Instruction) → (if t then j else faulty c) ≡ acts i → j ≡ acts i
-unfolding if_then_else_
-passes-last true c j i e = e
-passes-last false c j i e = cc
-
--- of two tests that do not both hold
+-- two tests that do not both hold: what follows, and from what it follows
 pub not-second : (t u : Bool) → all (t ∷ u ∷ []) ≡ false → t ≡ true → u ≡ false
 unfolding all if_then_else_
 not-second true true e h = e
 not-second true false e h = refl
 not-second false u e h = cc
 
+pub first-fails : (t u : Bool) → t ≡ false → all (t ∷ u ∷ []) ≡ false
+unfolding all
+first-fails t u e = if-false _ _ _ e
+
+pub second-fails : (t u : Bool) → u ≡ false → all (t ∷ u ∷ []) ≡ false
+unfolding all if_then_else_
+second-fails true u e = rw e
+second-fails false u e = refl
+
+-- words that may all be touched, one by one
+pub each-may : (L : Layout) (from : ℕ) (right : Right) (a : ℕ) (addresses : List ℕ) → allMay L from right (a ∷ addresses) ≡ true
+    → (may L from right (even a) ≡ true) × (allMay L from right addresses ≡ true)
+unfolding allMay
+each-may L from right a addresses e =
+    cases (may L from right (even a)) (λ h. (h, sym (if-true _ _ _ h) ∙ e)) (λ h. absurd (true≢false (sym e ∙ if-false _ _ _ h)))
+
 -- RETI while a visit is held
 abbrev pub resuming : Bool → Instruction → Bool
 resuming held i = all (held ∷ isReti i ∷ [])
 
-module _ (L : Layout) (held : Bool) (rs mem : List ℕ) where
-  act-same : (j i : Instruction) → judgeAct L held rs mem j ≡ acts i → j ≡ i
-  unfolding judgeAct
-  act-same j i e =
-      let p = passes _ _ _ _ e .1 in
-      cases (resuming held j)
-      (λ r. same (sym (if-true _ _ _ r) ∙ p))
-      (λ r. same (passes _ _ _ _ (passes _ _ _ _ (sym (if-false _ _ _ r) ∙ p) .1) .1))
-    where
-      same : acts j ≡ acts i → j ≡ i
-      same e = cc
+-- unless it returns to a held visit, an instruction may touch what it reads and writes
+abbrev pub Touches : Layout → Bool → List ℕ → Instruction → Type 0
+Touches L held rs i =
+    resuming held i ≡ false → (allMay L (pc rs) read (reads rs i) ≡ true) × (allMay L (pc rs) write (writes rs i) ≡ true)
 
-  act-is : (j i : Instruction) → judgeAct L held rs mem j ≡ acts i → judgeAct L held rs mem i ≡ acts i
-  act-is j i e = subst (λ (k : Instruction). judgeAct L held rs mem k ≡ acts i) (act-same j i e) e
+-- what an instruction has passed
+record Passed (L : Layout) (held : Bool) (rs : List ℕ) (previous : ℕ) (i : Instruction) : Type 0 where
+  executable : may L previous execute (pc rs) ≡ true
+  unheld : inside L (pc rs) ≡ true → held ≡ false
+  unprivileged : inside L (pc rs) ≡ true → privileged i ≡ false
+  touches : Touches L held rs i
 
-  words-is : (r : Reading) (i : Instruction) → judgeWords L held rs mem r ≡ acts i → judgeAct L held rs mem i ≡ acts i
-  unfolding judgeWords
-  words-is (Refused x) i e = cc
-  words-is (Decoded j n) i e = act-is j i e
+module _ (L : Layout) (held : Bool) (rs mem : List ℕ) (previous : ℕ) where
+  -- whatever acts has passed
+  unfoldable Lawful : Judged → Type 0
+  Lawful (faulty c) = Unit {0}
+  Lawful (acts i) = Passed L held rs previous i
 
-  second-is : (b : Begun) (i : Instruction) → judgeSecond L held rs mem b ≡ acts i → judgeAct L held rs mem i ≡ acts i
-  unfolding judgeSecond
-  second-is b i e =
-      cases (twoWords b)
-      (λ t. words-is _ i (passes-last _ _ _ _ (sym (if-true _ _ _ t) ∙ e)))
-      (λ t. words-is _ i (sym (if-false _ _ _ t) ∙ e))
+  module _ (x : may L previous execute (pc rs) ≡ true) (n : inside L (pc rs) ≡ true → held ≡ false) where
+    act-lawful : (i : Instruction) → Lawful (judgeAct L held rs mem i)
+    unfolding judgeAct Lawful
+    act-lawful i =
+        choose Lawful _ (λ p. tt) λ p.
+        let passes : Touches L held rs i → Passed L held rs previous i =
+        λ t. record { executable = x; unheld = n; unprivileged = not-second _ _ p; touches = t } in
+        choose Lawful _ (λ r. passes (λ f. absurd (true≢false (sym r ∙ f)))) λ r.
+        choose Lawful _ (λ f. tt) λ f.
+        choose Lawful _ (λ g. tt) λ g. passes (λ r. (not-false _ f, not-false _ g))
 
-  first-is : (b : Begun) (i : Instruction) → judgeFirst L held rs mem b ≡ acts i → judgeAct L held rs mem i ≡ acts i
-  unfolding judgeFirst
-  first-is Nothing i e = cc
-  first-is (Found r s d) i e = second-is _ i e
+    words-lawful : (r : Reading) → Lawful (judgeWords L held rs mem r)
+    unfolding judgeWords Lawful
+    words-lawful (Refused r) = tt
+    words-lawful (Decoded i n) = act-lawful i
+
+    second-lawful : (b : Begun) → Lawful (judgeSecond L held rs mem b)
+    unfolding judgeSecond Lawful
+    second-lawful b = choose Lawful _ (λ t. choose Lawful _ (λ s. words-lawful _) (λ s. tt)) (λ t. words-lawful _)
+
+    first-lawful : (b : Begun) → Lawful (judgeFirst L held rs mem b)
+    unfolding judgeFirst Lawful
+    first-lawful Nothing = tt
+    first-lawful (Found r s d) = second-lawful (Found r s d)
+
+  lawful : Lawful (judge L held rs mem previous)
+  unfolding judge Lawful
+  lawful = choose Lawful _ (λ e. tt) λ x. choose Lawful _ (λ e. tt) λ n. first-lawful (not-false _ x) (not-second _ _ n) _
 
   -- an instruction that acts may be executed, does not enter the module again, and may do what it does
-  module _ (previous : ℕ) (i : Instruction) (e : judge L held rs mem previous ≡ acts i) where
+  module _ (i : Instruction) (e : judge L held rs mem previous ≡ acts i) where
+    passed : Passed L held rs previous i
+    unfolding Lawful
+    passed = subst Lawful e lawful
+
     pub acts-executable : may L previous execute (pc rs) ≡ true
-    unfolding judge
-    acts-executable = not-false _ (passes _ _ _ _ e .0)
+    acts-executable = passed .executable
 
     pub acts-unheld : inside L (pc rs) ≡ true → held ≡ false
-    unfolding judge
-    acts-unheld = not-second _ _ (passes _ _ _ _ (passes _ _ _ _ e .1) .0)
-
-    act-acts : judgeAct L held rs mem i ≡ acts i
-    unfolding judge
-    act-acts = first-is _ i (passes _ _ _ _ (passes _ _ _ _ e .1) .1)
+    acts-unheld = passed .unheld
 
     pub acts-unprivileged : inside L (pc rs) ≡ true → privileged i ≡ false
-    unfolding judgeAct
-    acts-unprivileged = not-second _ _ (passes _ _ _ _ act-acts .0)
+    acts-unprivileged = passed .unprivileged
 
-    pub acts-touches : resuming held i ≡ false
-        → (allMay L (pc rs) read (reads rs i) ≡ true) × (allMay L (pc rs) write (writes rs i) ≡ true)
-    unfolding judgeAct
-    acts-touches r =
-        let p = passes _ _ _ _ (sym (if-false _ _ _ r) ∙ passes _ _ _ _ act-acts .1) in
-        (not-false _ (p .0), not-false _ (passes _ _ _ _ (p .1) .0))
+    pub acts-touches : Touches L held rs i
+    acts-touches = passed .touches
+
+    -- RETI writes no memory
+    pub acts-writes : allMay L (pc rs) write (writes rs i) ≡ true
+    unfolding allMay
+    acts-writes = cases (resuming held i) (λ r. rw (is-reti i (each _ r .1 .0))) (λ r. acts-touches r .1)

@@ -7,7 +7,7 @@ use native.Mathlib.Omega.{arith}
 use borrow.Author.Tests.{eqb-true}
 use Rattle.base.specs.Test.{all}
 use Rattle.base.specs.Word.{even, isEven, sum16}
-use Rattle.base.proofs.Tests.{if-false}
+use Rattle.base.proofs.Tests.{choose-both}
 use Rattle.isa.specs.declared.instruction.Instruction.{Instruction}
 use Rattle.isa.specs.declared.read.Begun.{Begun}
 use Rattle.isa.specs.declared.read.Begun.the-variants.{Nothing, Found}
@@ -25,10 +25,10 @@ use Rattle.machine.specs.Registers.{pc}
 use Rattle.machine.specs.Judge.{allMay, judgeAct, judgeWords, judgeSecond, judgeFirst, judge}
 use Rattle.machine.specs.Act.{memoryAfter}
 use Rattle.machine.specs.Laws.{SameOutside}
-use Rattle.machine.proofs.Choice.{choose-both}
 use Rattle.machine.proofs.CauseLaws.{judged-first}
 use Rattle.machine.proofs.ViewLaws.{word-same, put-same}
-use Rattle.machine.proofs.ReadLaws.{SameWords, each-may, kept-or-stored}
+use Rattle.machine.proofs.ActLaws.{SameWords, kept-or-stored}
+use Rattle.machine.proofs.JudgeLaws.{first-fails, each-may}
 
 module _ (L : Layout) (fit : accepted L ≡ true) (rs mem bytes : List ℕ) (s : SameOutside L mem bytes) (o : outside L (pc rs) ≡ true)
   where
@@ -72,8 +72,7 @@ module _ (L : Layout) (fit : accepted L ≡ true) (rs mem bytes : List ℕ) (s :
       first-alike (Found r n d) = second-alike (Found r n d)
 
       none-entered : all (inside L (pc rs) ∷ held ∷ []) ≡ false
-      unfolding all
-      none-entered = if-false _ _ _ (outside-not-inside L _ o)
+      none-entered = first-fails _ _ (outside-not-inside L _ o)
 
       pub judged-alike : (previous last : ℕ) → judge L held rs mem previous ≡ judge L held rs bytes last
       judged-alike previous last =

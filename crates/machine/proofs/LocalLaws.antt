@@ -5,7 +5,7 @@ use mathlib.Core.List.{List}
 use Prim.Native.Nat.{ℕ}
 use Rattle.base.specs.Test.{if_then_else_}
 use Rattle.base.specs.Word.{isEven}
-use Rattle.base.proofs.Tests.{each}
+use Rattle.base.proofs.Tests.{each, choose-both}
 use Rattle.isa.specs.declared.instruction.Instruction.{Instruction}
 use Rattle.layout.specs.declared.sections.Layout.{Layout}
 use Rattle.layout.specs.Sections.{inside, outside}
@@ -19,13 +19,12 @@ use Rattle.machine.specs.declared.answer.Outcome.the-variants.{Ran}
 use Rattle.machine.specs.Registers.{pc}
 use Rattle.machine.specs.Time.{deviceWord}
 use Rattle.machine.specs.State.{isHeld, framed}
-use Rattle.machine.specs.Judge.{Judged, faulty, acts, reads, judge}
+use Rattle.machine.specs.Judge.{Judged, faulty, acts, judge}
 use Rattle.machine.specs.Interrupt.{due}
 use Rattle.machine.specs.Step.{executed, ordinary, performed, stepJudged, step}
 use Rattle.machine.specs.Laws.{OutsideLocal, SameOutside, SameStep, SeenAlike, alike}
-use Rattle.machine.proofs.Choice.{choose-both}
-use Rattle.machine.proofs.PermittedLaws.{Permitted, permitted, free-returns, other-returns}
-use Rattle.machine.proofs.ReadLaws.{SameWords, registers-same}
+use Rattle.machine.proofs.JudgeLaws.{first-fails, second-fails, resuming, acts-touches}
+use Rattle.machine.proofs.ActLaws.{registers-same}
 use Rattle.machine.proofs.JudgedAlike.{read-alike, stored-alike, judged-alike}
 use Rattle.machine.proofs.ServedAlike.{machineOf, given-alike, resumed-alike, reset-alike, interrupted-alike}
 
@@ -37,31 +36,31 @@ module _ (L : Layout) (fit : accepted L ≡ true) (stamps rs : List ℕ) (t : Ti
   abbrev there : Visit → Machine
   there u = machineOf rs t false q u copy
 
-  ordinary-alike : (v u : Visit) → isHeld v ≡ isHeld u → (i : Instruction) → SameWords mem bytes (reads rs i)
-      → SameStep L (ordinary L stamps (here v) mem i) (ordinary L stamps (there u) bytes i)
+  ordinary-alike : (v u : Visit) → isHeld v ≡ isHeld u → (i : Instruction) → judge L (isHeld v) rs mem p ≡ acts i
+      → resuming (isHeld v) i ≡ false → SameStep L (ordinary L stamps (here v) mem i) (ordinary L stamps (there u) bytes i)
   unfolding ordinary executed due
-  ordinary-alike v u h i e =
+  ordinary-alike v u h i e n =
+      let k = read-alike L fit rs mem bytes s o _ (acts-touches L _ rs mem p i e n .0) in
       let m = stored-alike L fit rs mem bytes s o i in
-      rw (registers-same (inside L (pc rs)) rs (deviceWord t) mem bytes i e, outside-not-inside L (pc rs) o)
+      rw (registers-same (inside L (pc rs)) rs (deviceWord t) mem bytes i k, outside-not-inside L (pc rs) o)
       (choose-both (SameStep L) _ (λ f. given-alike L h m)
       (λ f. interrupted-alike L stamps _ _ m fit _ _ _ _ v u h _ _ Ran _))
 
-  performed-alike : (v u : Visit) → isHeld v ≡ isHeld u → (i : Instruction) → Permitted L (isHeld v) rs i
+  performed-alike : (v u : Visit) → isHeld v ≡ isHeld u → (i : Instruction) → judge L (isHeld v) rs mem p ≡ acts i
       → SeenAlike L (performed L stamps (here v) mem v i) (performed L stamps (there u) bytes u i)
   unfolding performed
-  performed-alike Free Free h i k =
-      alike (ordinary-alike Free Free h i (read-alike L fit rs mem bytes s o _ (k .reading (free-returns i))))
-  performed-alike Free (Held _ _) h i k = absurd (true≢false (sym h))
-  performed-alike (Held _ _) Free h i k = absurd (true≢false h)
-  performed-alike (Held _ _) (Held _ _) h i k =
+  performed-alike Free Free h i e = alike (ordinary-alike Free Free h i e (first-fails _ _ refl))
+  performed-alike Free (Held _ _) h i e = absurd (true≢false (sym h))
+  performed-alike (Held _ _) Free h i e = absurd (true≢false h)
+  performed-alike (Held _ _) (Held _ _) h i e =
       choose-both (SeenAlike L) _ (λ r. resumed-alike L stamps mem bytes s _ _ _ _ _ saved copy _)
-      (λ r. alike (ordinary-alike _ _ h i (read-alike L fit rs mem bytes s o _ (k .reading (other-returns true i r)))))
+      (λ r. alike (ordinary-alike _ _ h i e (second-fails _ _ r)))
 
   judged-step-alike : (v u : Visit) → isHeld v ≡ isHeld u → (j : Judged) → judge L (isHeld v) rs mem p ≡ j
       → SeenAlike L (stepJudged L stamps (here v) mem j) (stepJudged L stamps (there u) bytes j)
   unfolding stepJudged
   judged-step-alike v u h (faulty c) e = alike (reset-alike L stamps mem bytes s fit c _ _ refl)
-  judged-step-alike v u h (acts i) e = performed-alike v u h i (permitted L (isHeld v) rs mem p i e)
+  judged-step-alike v u h (acts i) e = performed-alike v u h i e
 
   step-alike : (v u : Visit) → isHeld v ≡ isHeld u → isEven (pc rs) ≡ true
       → SeenAlike L (step L stamps (here v) mem) (step L stamps (there u) bytes)

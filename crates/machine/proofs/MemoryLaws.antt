@@ -1,12 +1,21 @@
--- A word that is put into memory changes its own two bytes, no other and no length, and reads as it was put. Assumes nothing.
-use mathlib.Core.Path.{_≡_}
+-- A word that is put into memory changes its own two bytes, on one side, no other and no length. Assumes nothing.
+use mathlib.Core.Path.{_≡_, sym, _∙_, ap}
 use mathlib.Core.Logic.{_≢_}
+use mathlib.Core.Bool.{true}
 use mathlib.Core.List.{List}
 use Prim.Native.Nat.{ℕ, _+_, _/_, _%_, _<_}
 use native.Mathlib.Omega.{arith}
+use lib.Dec.{eqb}
 use lib.ListN.{length, set, length-set}
 use lib.Seq.{getD-set-same, getD-set-other}
+use borrow.Author.Tests.{eqb-true, eqb-false}
 use Rattle.base.specs.Word.{even}
+use Rattle.base.proofs.Tests.{cases}
+use Rattle.layout.specs.declared.sections.Layout.{Layout}
+use Rattle.layout.specs.Sections.{outside}
+use Rattle.layout.specs.Rules.{accepted}
+use Rattle.layout.proofs.SectionLaws.{same-outside}
+use Rattle.layout.proofs.LayoutLaws.{word-in-one-section}
 use Rattle.machine.specs.Memory.{byteAt, wordAt, putWord}
 
 module _ (mem : List ℕ) (a w : ℕ) where
@@ -35,3 +44,18 @@ module _ (mem : List ℕ) (a w : ℕ) where
     pub put-word : w < 65536 → wordAt (putWord mem a w) a ≡ w
     unfolding wordAt
     put-word h = rw (put-low, put-high) (omega arith)
+
+module _ (L : Layout) (v : accepted L ≡ true) where
+  -- the two bytes of a word are on one side
+  pub word-side : (a : ℕ) → outside L (even a + 1) ≡ outside L (even a)
+  word-side a = same-outside L _ _ (word-in-one-section L a v)
+
+  pub even-side : (a : ℕ) → outside L (even a) ≡ outside L a
+  even-side a =
+      cases (eqb (even a) a) (λ e. ap (outside L) (eqb-true _ _ e))
+      (λ e. sym (word-side a) ∙ ap (outside L) (let n = eqb-false (even a) a e in omega arith))
+
+  -- a word on one side leaves the bytes of the other
+  pub put-side : (mem : List ℕ) (a w x : ℕ) → outside L x ≢ outside L (even a) → byteAt (putWord mem a w) x ≡ byteAt mem x
+  put-side mem a w x n =
+      put-other mem a w x (λ e. n (ap (outside L) e)) (λ e. n (ap (outside L) e ∙ word-side a))

@@ -1,123 +1,32 @@
--- Code inside never alters GIE; where GIE is set the slot is empty; ages, chaining and two causes. Assumes nothing.
-use mathlib.Core.Path.{_≡_, refl, sym, _∙_, ap}
-use mathlib.Core.Bool.{Bool, true, false, not, true≢false}
-use mathlib.Core.List.{List, [], _∷_}
-use Prim.Native.Nat.{ℕ, zero, suc, _-_, _≤_, min}
+-- Where GIE is set the slot is empty, so that the age at a padded service is at most 5. Assumes nothing.
+use mathlib.Core.Path.{_≡_, sym, _∙_, ap}
+use mathlib.Core.Bool.{Bool, true, false, true≢false}
+use mathlib.Core.List.{List}
+use Prim.Native.Nat.{ℕ, _-_, _≤_, min}
 use native.Mathlib.Omega.{arith}
-use lib.Dec.{eqb, leb}
-use lib.ListN.{getD, set}
-use lib.Seq.{getD-set-other}
-use borrow.Author.Tests.{eq-eqb, leb-true}
-use Rattle.base.specs.Test.{if_then_else_}
-use Rattle.base.proofs.Tests.{cases, each, every, if-true, choose}
-use Rattle.isa.specs.declared.instruction.Instruction.{Instruction}
+use Rattle.base.proofs.Tests.{choose}
 use Rattle.isa.specs.Cycles.{cyclesOf}
 use Rattle.layout.specs.declared.sections.Layout.{Layout}
-use Rattle.layout.specs.Sections.{inside}
-use Rattle.alu.specs.Status.{gie}
-use Rattle.alu.specs.Laws.{FlagsOnly, GieKept}
-use Rattle.alu.proofs.StatusBits.{flags-only, gie-kept}
-use Rattle.machine.specs.declared.state.Stamp.{Stamp}
-use Rattle.machine.specs.declared.state.Stamp.the-variants.{Never, At}
 use Rattle.machine.specs.declared.state.Visit.the-variants.{Held}
 use Rattle.machine.specs.declared.state.Machine.{Machine}
 use Rattle.machine.specs.declared.answer.Outcome.the-variants.{Padded}
 use Rattle.machine.specs.Outcome.{kindLetter}
-use Rattle.machine.specs.Registers.{register, sr, pc, write, cleared}
 use Rattle.machine.specs.Time.{pass}
-use Rattle.machine.specs.State.{start, framedVisit, framed}
-use Rattle.machine.specs.Act.{past}
-use Rattle.machine.specs.Interrupt.{Step, ageOf, due, reset, plain, padded, chained, back}
-use Rattle.machine.specs.Step.{executed, step}
-use Rattle.machine.specs.Laws.{GieKeptInside, Quiet, QuietAtStart, QuietKept, AgeAtMostFive, ChainsWhateverGie}
+use Rattle.machine.specs.State.{start, framed}
+use Rattle.machine.specs.Interrupt.{Step, ageOf, reset, plain, padded, chained, back}
+use Rattle.machine.specs.Step.{executed}
+use Rattle.machine.specs.Laws.{Quiet, QuietAtStart, QuietKept, AgeAtMostFive}
 use Rattle.machine.proofs.PassLaws.{pass-clock, pass-filled}
-use Rattle.machine.proofs.ActLaws.{Written, passed, wrote, flagged, written}
 use Rattle.machine.proofs.InstructionLaws.{cycles-range}
-use Rattle.machine.proofs.StepLaws.{next, afterReti, Way, resets, halts, runs, serves, pads, chains, returns, padsAgain, way, step-chains, next-clock, next-slot}
-
--- ---- GIE
-
--- a register that is set to what a test says of it already
-set-keeps : (f : ℕ → Bool) (rs : List ℕ) (n v : ℕ) → f v ≡ f (getD rs n 0) → f (getD (set rs n v) n 0) ≡ f (getD rs n 0)
-set-keeps f [] n v e = refl
-set-keeps f (x ∷ rs) zero v e = e
-set-keeps f (x ∷ rs) (suc n) v e = set-keeps f rs n v e
-
-gie-set : (rs : List ℕ) (v : ℕ) → gie v ≡ gie (sr rs) → gie (sr (set rs 2 v)) ≡ gie (sr rs)
-unfolding register
-gie-set rs v e = set-keeps gie rs 2 v e
-
-gie-other : (rs : List ℕ) (n v : ℕ) → (2 ≡ n → ⊥) → gie (sr (set rs n v)) ≡ gie (sr rs)
-unfolding register
-gie-other rs n v h = ap gie (getD-set-other rs n 2 v 0 h)
-
-write-gie : (rs : List ℕ) (n w : ℕ) → gie (sr (write true rs n w)) ≡ gie (sr rs)
-unfolding write GieKept
-write-gie rs n w =
-    choose Keeps (eqb n 3) (λ e. refl)
-    λ e. choose Keeps (leb n 1) (λ l. gie-other rs n _ (λ q. omega (arith, leb-true n 1 l)))
-    λ l. choose Keeps _ (λ s. gie-set rs _ (gie-kept (sr rs) w .0))
-    λ s. gie-other rs n w (λ q. true≢false (sym (every _ (eq-eqb n 2 (sym q), (refl, tt))) ∙ s))
-  where
-    Keeps : List ℕ → Type 0
-    Keeps after = gie (sr after) ≡ gie (sr rs)
-
-written-gie : (rs after : List ℕ) → Written true rs after → gie (sr after) ≡ gie (sr rs)
-unfolding past FlagsOnly
-written-gie rs after (passed i) = gie-other rs 0 _ (λ q. omega arith)
-written-gie rs after (wrote n w r) = write-gie _ n w ∙ written-gie rs _ r
-written-gie rs after (flagged c r) = gie-set _ _ (flags-only _ c .1) ∙ written-gie rs _ r
-
-pub gie-kept-inside : GieKeptInside
-unfolding GieKeptInside
-gie-kept-inside rs mem device i = written-gie rs _ (written true rs mem device i)
-
-module _ (L : Layout) (stamps : List ℕ) (m : Machine) (mem : List ℕ) where
-  pub next-gie : (i : Instruction) → inside L (pc (m .registers)) ≡ true
-      → gie (sr (next L stamps m mem i .registers)) ≡ gie (sr (m .registers))
-  unfolding executed GieKeptInside
-  next-gie i h = rw h (gie-kept-inside (m .registers) mem _ i)
-
--- ---- what is due
-
-chosen : (g : Bool) (x : Stamp) (s : ℕ) → (if g then x else Never) ≡ At s → (g ≡ true) × (x ≡ At s)
-unfolding if_then_else_
-chosen true x s e = (refl, e)
-chosen false x s e = (cc, cc)
-
--- what is due is in the slot, and GIE is set
-pub due-at : (m : Machine) (s : ℕ) → due m ≡ At s → (gie (sr (m .registers)) ≡ true) × (m .time .slot ≡ At s)
-unfolding due
-due-at m s e = chosen _ _ s e
-
-pub at-due : (m : Machine) (s : ℕ) → gie (sr (m .registers)) ≡ true → m .time .slot ≡ At s → due m ≡ At s
-unfolding due
-at-due m s g e = if-true _ _ _ g ∙ e
-
--- where nothing is due the machine is quiet
-pub due-never : (m : Machine) → due m ≡ Never → Quiet m
-unfolding due
-due-never m e g = sym (if-true _ _ _ g) ∙ e
+use Rattle.machine.proofs.StepLaws.{next, afterReti, Way, resets, halts, runs, serves, pads, chains, returns, padsAgain, way, step-case, next-clock, next-slot}
+use Rattle.machine.proofs.GieLaws.{next-gie, due-at, due-never, cleared-gie, plain-gie}
+use Rattle.machine.proofs.FrameLaws.{held-framed}
 
 -- ---- quiet
 
 -- a machine with GIE clear is quiet
 gie-clear : {g : Bool} {A : Type 0} → g ≡ false → g ≡ true → A
 gie-clear e g = absurd (true≢false (sym g ∙ e))
-
-pub cleared-gie : (a : ℕ) → gie (sr (cleared a)) ≡ false
-unfolding gie register cleared
-cleared-gie a = refl
-
-set-zero : (rs : List ℕ) (n : ℕ) → getD (set rs n 0) n 0 ≡ 0
-set-zero [] n = refl
-set-zero (x ∷ rs) zero = refl
-set-zero (x ∷ rs) (suc n) = set-zero rs n
-
--- the service's registers after a plain interrupt
-pub plain-gie : (rs : List ℕ) (low service : ℕ) → gie (sr (set (set (set rs 1 low) 2 0) 0 service)) ≡ false
-unfolding register gie
-plain-gie rs low service = gie-other (set (set rs 1 low) 2 0) 0 service (λ q. omega arith) ∙ ap gie (set-zero (set rs 1 low) 2)
 
 pub quiet-at-start : QuietAtStart
 unfolding QuietAtStart start
@@ -147,14 +56,6 @@ quiet-kept L stamps m mem f r q h = way-quiet L stamps m mem _ (way L stamps m m
 
 -- ---- the age that is held
 
--- of a held visit in the frame
-pub held-framed : (L : Layout) (m : Machine) (previous age : ℕ) → framed L m ≡ true → m .visit ≡ Held previous age
-    → (age ≤ 6) × (gie (sr (m .saved)) ≡ true)
-unfolding framed
-held-framed L m previous age f e =
-    let h = each _ (sym (ap (framedVisit L (m .saved)) e) ∙ each _ f .1 .1 .1 .1 .0) in
-    (leb-true age 6 (h .0), h .1 .1 .0)
-
 module _ (L : Layout) (stamps : List ℕ) (m : Machine) (mem : List ℕ) (f : framed L m ≡ true) (q : Quiet m) (previous age : ℕ) where
   -- a request that a quiet machine serves padded came in the cycles of the instruction, or of the return; a step that is not
   -- padded has another letter
@@ -178,18 +79,10 @@ module _ (L : Layout) (stamps : List ℕ) (m : Machine) (mem : List ℕ) (f : fr
   way-age s (padsAgain p a u r n d) o v =
       let w = pass-filled stamps a (afterReti stamps m) u n (due-at _ u d .1) in
       let e : min (pass stamps a (afterReti stamps m) .clock - u) 6 ≡ age = cc in
-      omega (arith, pass-clock stamps a (afterReti stamps m), held-framed L m p a f (r .holding) .0)
+      omega (arith, pass-clock stamps a (afterReti stamps m), held-framed L m p a f (r .holding) .age-bound)
 
 pub age-at-most-five : AgeAtMostFive
-unfolding AgeAtMostFive step
-age-at-most-five L stamps m mem previous age f q o v =
-    cases (m .halted)
-    (λ h. omega (arith, ap kindLetter (sym (ap (λ (s : Step). s .outcome) (if-true _ _ _ h)) ∙ o)))
-    (λ h. way-age L stamps m mem f q previous age _ (way L stamps m mem h) o v)
-
--- ---- the causes and the ways to serve
-
-pub chains-whatever-gie : ChainsWhateverGie
-unfolding ChainsWhateverGie chained
-chains-whatever-gie L stamps m mem previous age s r v e f =
-    ap (λ (z : Step). z .outcome) (step-chains L stamps m mem r previous age s (record { holding = v; acting = e }) f)
+unfolding AgeAtMostFive
+age-at-most-five L stamps m mem previous age f q =
+    step-case L stamps m mem (λ (s : Step). s .outcome ≡ Padded → s .machine .visit ≡ Held previous age → age ≤ 5)
+    (λ h o v. omega (arith, ap kindLetter o)) (way-age L stamps m mem f q previous age)

@@ -1,9 +1,8 @@
--- Registers after a write, and their frame, which every instruction keeps: pc and sp even, r3 zero. Assumes nothing.
-use mathlib.Core.Path.{_≡_, refl, sym, ap}
-use mathlib.Core.Logic.{_≢_}
+-- The registers' frame, which every instruction keeps: pc and sp even, r3 zero. Assumes nothing.
+use mathlib.Core.Path.{_≡_, refl, sym}
 use mathlib.Core.Bool.{Bool, true}
-use mathlib.Core.List.{List, [], _∷_}
-use Prim.Native.Nat.{ℕ, zero, suc, _*_, _%_, _≤_}
+use mathlib.Core.List.{List}
+use Prim.Native.Nat.{ℕ, zero, _*_, _%_, _≤_}
 use native.Mathlib.Omega.{arith}
 use lib.Dec.{eqb, leb}
 use lib.ListN.{set}
@@ -15,29 +14,17 @@ use Rattle.isa.specs.Cycles.{lengthOf}
 use Rattle.machine.specs.Registers.{register, pc, write, cleared}
 use Rattle.machine.specs.State.{framedRegisters}
 use Rattle.machine.specs.Act.{past, registersAfter}
-use Rattle.machine.proofs.ActCases.{registers-after}
+use Rattle.machine.proofs.ActLaws.{register-set, registers-after}
 
--- register k after register n is set: the new value only where it is the same register
-pub register-set : (P : ℕ → Type 0) (rs : List ℕ) (n k v : ℕ) → (k ≡ n → P v) → P (register rs k) → P (register (set rs n v) k)
-unfolding register
-register-set P [] n k v p q = q
-register-set P (x ∷ rs) zero zero v p q = p refl
-register-set P (x ∷ rs) zero (suc k) v p q = q
-register-set P (x ∷ rs) (suc n) zero v p q = q
-register-set P (x ∷ rs) (suc n) (suc k) v p q = register-set P rs n k v (λ e. p (ap suc e)) q
-
-pub register-other : (rs : List ℕ) (n k v : ℕ) → k ≢ n → register (set rs n v) k ≡ register rs k
-register-other rs n k v h = register-set (λ (x : ℕ). x ≡ register rs k) rs n k v (λ e. absurd (h e)) refl
+abbrev pub FramedRegisters : List ℕ → Type 0
+FramedRegisters rs = framedRegisters rs ≡ true
 
 -- what the frame asks of the value of register n
 pub record Fits (n v : ℕ) : Type 0 where
   pub even : n ≤ 1 → v % 2 ≡ 0
   pub zero : n ≡ 3 → v ≡ 0
 
-abbrev Framed : List ℕ → Type 0
-Framed rs = framedRegisters rs ≡ true
-
-pub set-framed : (rs : List ℕ) (n v : ℕ) → Fits n v → framedRegisters rs ≡ true → framedRegisters (set rs n v) ≡ true
+pub set-framed : (rs : List ℕ) (n v : ℕ) → Fits n v → FramedRegisters rs → FramedRegisters (set rs n v)
 set-framed rs n v f r =
     let h = each _ r in
     let kept : (k : ℕ) → k ≤ 1 → isEven (register rs k) ≡ true → isEven (register (set rs n v) k) ≡ true =
@@ -50,27 +37,26 @@ set-framed rs n v f r =
       ),
     )
 
-pub write-framed : (inside : Bool) (rs : List ℕ) (n w : ℕ) → framedRegisters rs ≡ true
-    → framedRegisters (write inside rs n w) ≡ true
+pub write-framed : (inside : Bool) (rs : List ℕ) (n w : ℕ) → FramedRegisters rs → FramedRegisters (write inside rs n w)
 unfolding write
 write-framed inside rs n w r =
-    choose Framed (eqb n 3) (λ e. r) λ e.
+    choose FramedRegisters (eqb n 3) (λ e. r) λ e.
     let m = eqb-false n 3 e in
-    choose Framed (leb n 1) (λ f. set-framed rs n (even w) (omega arith) r) λ f.
+    choose FramedRegisters (leb n 1) (λ f. set-framed rs n (even w) (omega arith) r) λ f.
     let l = leb-false n 1 f in
-    choose Framed _ (λ g. set-framed rs 2 _ (omega arith) r) (λ g. set-framed rs n w (omega arith) r)
+    choose FramedRegisters _ (λ g. set-framed rs 2 _ (omega arith) r) (λ g. set-framed rs n w (omega arith) r)
 
-past-framed : (rs : List ℕ) (i : Instruction) → framedRegisters rs ≡ true → framedRegisters (past rs i) ≡ true
+past-framed : (rs : List ℕ) (i : Instruction) → FramedRegisters rs → FramedRegisters (past rs i)
 unfolding past
 past-framed rs i r =
     let e : pc rs % 2 ≡ 0 = eqb-true _ _ (each _ r .0) in set-framed rs 0 (sum16 (pc rs) (2 * lengthOf i)) (omega arith) r
 
-pub registers-framed : (inside : Bool) (rs : List ℕ) (device : ℕ) (mem : List ℕ) (i : Instruction) → framedRegisters rs ≡ true
-    → framedRegisters (registersAfter inside rs device mem i) ≡ true
+pub registers-framed : (inside : Bool) (rs : List ℕ) (device : ℕ) (mem : List ℕ) (i : Instruction) → FramedRegisters rs
+    → FramedRegisters (registersAfter inside rs device mem i)
 registers-framed inside rs device mem i r =
-    registers-after Framed inside rs device mem (write-framed inside)
+    registers-after FramedRegisters inside rs device mem (write-framed inside)
     (λ x c. set-framed x 2 _ (omega arith)) i (past-framed rs i r)
 
-pub cleared-framed : (a : ℕ) → isEven a ≡ true → framedRegisters (cleared a) ≡ true
+pub cleared-framed : (a : ℕ) → isEven a ≡ true → FramedRegisters (cleared a)
 unfolding cleared register
 cleared-framed a e = every _ (e, (refl, (refl, tt)))

@@ -1,23 +1,21 @@
 -- A run counts its steps, says its end when it is so, and adds up. Assumes nothing.
-use mathlib.Core.Path.{_≡_, refl, sym, _∙_, ap, subst}
-use mathlib.Core.Bool.{Bool, true, false}
-use mathlib.Core.List.{List, [], _∷_}
+use mathlib.Core.Path.{_≡_, refl, _∙_, ap, subst}
+use mathlib.Core.Bool.{true, false}
+use mathlib.Core.List.{List, _∷_}
 use Prim.Native.Nat.{ℕ, zero, suc, _+_, _≤_, _<_}
+use native.Mathlib.Nat.{add-zero, zero-add, suc-add, add-assoc}
 use native.Mathlib.Omega.{arith}
 use lib.Dec.{ltb}
 use lib.ListN.{length}
 use borrow.Author.Tests.{ltb-true, ltb-false}
-use Rattle.base.specs.Test.{if_then_else_}
 use Rattle.base.proofs.Tests.{choose}
 use Rattle.layout.specs.declared.sections.Layout.{Layout}
-use Rattle.machine.specs.declared.state.Time.{Time}
 use Rattle.machine.specs.declared.state.Machine.{Machine}
 use Rattle.machine.specs.declared.answer.End.{End}
 use Rattle.machine.specs.declared.answer.End.the-variants.{Halted, Clock, Spent}
 use Rattle.machine.specs.Outcome.{endLetter}
 use Rattle.machine.specs.State.{World}
-use Rattle.machine.specs.Interrupt.{Step}
-use Rattle.machine.specs.Run.{lastClock, Going, goes, stops, ending, Stop, Move, worldAfter, stepOf, runFrom, run, moves, stopOr, noneOr}
+use Rattle.machine.specs.Run.{lastClock, Going, goes, stops, ending, Stop, worldAfter, stepOf, runFrom, run, moves, stopOr, noneOr}
 use Rattle.machine.specs.Laws.{RunCounts, EndsSo, RunEnds, RunAdds}
 
 -- why a machine stops, as facts
@@ -56,10 +54,11 @@ module _ (L : Layout) (stamps : List ℕ) where
       go goes h = omega arith
       go (stops e) h = omega arith
 
-  -- the end: where a machine stops, and where the budget is spent
+  -- the end: a machine stops, or the run goes further
   stops-so : (n budget : ℕ) (w : World) (g : Going) (further : Stop) → n ≤ budget → Ends (w .machine) g
-      → (g ≡ goes → EndsSo further budget) → EndsSo (stopOr L stamps n w further g) budget
-  stops-so n budget w g further h (running r c) go = go refl
+      → (w .machine .halted ≡ false → w .machine .time .clock ≤ lastClock → EndsSo further budget)
+      → EndsSo (stopOr L stamps n w further g) budget
+  stops-so n budget w g further h (running r c) go = go r c
   stops-so n budget w g further h (haltedNow r) go =
       record {
         within = h;
@@ -75,25 +74,19 @@ module _ (L : Layout) (stamps : List ℕ) where
         spent = λ e. absurd (omega (arith, ap endLetter e));
       }
 
-  spent-so : (n : ℕ) (w : World) (g : Going) → Ends (w .machine) g → g ≡ goes → EndsSo (stopAt n w Spent) n
-  spent-so n w g (running r c) e =
-      record {
-        within = omega arith;
-        halted = λ e. absurd (omega (arith, ap endLetter e));
-        clock = λ e. absurd (omega (arith, ap endLetter e));
-        spent = λ e. (r, c, refl);
-      }
-  spent-so n w g (haltedNow r) e = let z : _≡_ {A = ℕ} 0 1 = cc in absurd (omega arith)
-  spent-so n w g (lateNow r c) e = let z : _≡_ {A = ℕ} 0 1 = cc in absurd (omega arith)
-
   ended : (n left : ℕ) (w : World) → EndsSo (runFrom L stamps n left w) (n + left)
   unfolding runFrom
   ended n zero w =
-      stops-so n (n + 0) w (ending (w .machine)) (stopAt n w Spent) (omega arith) (ends (w .machine))
-      (λ e. subst (EndsSo (stopAt n w Spent)) (omega arith) (spent-so n w (ending (w .machine)) (ends (w .machine)) e))
+      stops-so n (n + 0) w _ _ (omega arith) (ends (w .machine))
+      (λ r c. record {
+        within = omega arith;
+        halted = λ e. absurd (omega (arith, ap endLetter e));
+        clock = λ e. absurd (omega (arith, ap endLetter e));
+        spent = λ e. (r, c, omega arith);
+      })
   ended n (suc left) w =
-      stops-so n (n + suc left) w (ending (w .machine)) _ (omega arith) (ends (w .machine))
-      (λ e. subst (EndsSo (runFrom L stamps (n + 1) left (next w))) (omega arith) (ended (n + 1) left (next w)))
+      stops-so n (n + suc left) w _ _ (omega arith) (ends (w .machine))
+      (λ r c. subst (EndsSo (runFrom L stamps (n + 1) left (next w))) (omega arith) (ended (n + 1) left (next w)))
 
   -- a run that has made n steps is one from the start, with n more counted
   abbrev later : ℕ → Stop → Stop
@@ -111,7 +104,7 @@ module _ (L : Layout) (stamps : List ℕ) where
       go : (g : Going) → runFrom L stamps (n + (k + 1)) left (next w) ≡ later n (runFrom L stamps (k + 1) left (next w))
           → stopOr L stamps (n + k) w (runFrom L stamps (n + k + 1) left (next w)) g
           ≡ later n (stopOr L stamps k w (runFrom L stamps (k + 1) left (next w)) g)
-      go goes h = ap (λ (x : ℕ). runFrom L stamps x left (next w)) (omega arith) ∙ h
+      go goes h = rw add-assoc h
       go (stops e) h = refl
 
   -- the world where a run stopped
@@ -125,27 +118,21 @@ module _ (L : Layout) (stamps : List ℕ) where
   added zero k j w e = from-here (ending (w .machine))
     where
       at-once : runFrom L stamps j (zero + k) w ≡ runFrom L stamps (j + zero) k w
-      at-once =
-          ap (λ (x : ℕ). runFrom L stamps j x w) (let p : zero + k ≡ k = omega arith in p)
-          ∙ ap (λ (x : ℕ). runFrom L stamps x k w) (let p : j ≡ j + zero = omega arith in p)
+      at-once = rw (zero-add, add-zero)
 
       from-here : (g : Going)
           → runFrom L stamps j (zero + k) w ≡ runFrom L stamps (j + zero) k (reached (stopOr L stamps j w (stopAt j w Spent) g))
       from-here goes = at-once
       from-here (stops e) = at-once
   added (suc n) k j w e =
-      ap (λ (x : ℕ). runFrom L stamps j x w) (let p : suc n + k ≡ suc (n + k) = omega arith in p)
-      ∙ go (ending (w .machine)) (ends (w .machine)) e (added n k (j + 1) (next w))
+      rw suc-add (go (ending (w .machine)) (ends (w .machine)) e (added n k (j + 1) (next w)))
     where
       go : (g : Going) → Ends (w .machine) g → stopOr L stamps j w (runFrom L stamps (j + 1) n (next w)) g .end ≡ Spent
           → (runFrom L stamps (j + 1) n (next w) .end ≡ Spent
           → runFrom L stamps (j + 1) (n + k) (next w) ≡ runFrom L stamps (j + 1 + n) k (reached (runFrom L stamps (j + 1) n (next w))))
           → stopOr L stamps j w (runFrom L stamps (j + 1) (n + k) (next w)) g
           ≡ runFrom L stamps (j + suc n) k (reached (stopOr L stamps j w (runFrom L stamps (j + 1) n (next w)) g))
-      go g (running r c) e h =
-          h e
-          ∙ ap (λ (x : ℕ). runFrom L stamps x k (reached (runFrom L stamps (j + 1) n (next w))))
-          (let p : j + 1 + n ≡ j + suc n = omega arith in p)
+      go g (running r c) e h = let p : j + 1 + n ≡ j + suc n = omega arith in rw p at (h e)
       go g (haltedNow r) e h = absurd (omega (arith, ap endLetter e))
       go g (lateNow r c) e h = absurd (omega (arith, ap endLetter e))
 
@@ -160,6 +147,5 @@ run-ends L stamps budget w = subst (EndsSo (runFrom L stamps 0 budget w)) (omega
 pub run-adds : RunAdds
 unfolding RunAdds run
 run-adds L stamps n k w e =
-    added L stamps n k 0 w e
-    ∙ ap (λ (x : ℕ). runFrom L stamps x k (reached L stamps (runFrom L stamps 0 n w))) (let p : 0 + n ≡ n + 0 = omega arith in p)
-    ∙ shifted L stamps n 0 k (reached L stamps (runFrom L stamps 0 n w))
+    let p : 0 + n ≡ n + 0 = omega arith in
+    rw p at (added L stamps n k 0 w e) ∙ shifted L stamps n 0 k (reached L stamps (runFrom L stamps 0 n w))

@@ -4,6 +4,7 @@ use mathlib.Core.Bool.{Bool, true, false}
 use mathlib.Core.List.{List}
 use Prim.Native.Nat.{ℕ}
 use native.Mathlib.Omega.{arith}
+use Rattle.base.proofs.Tests.{choose-both}
 use Rattle.layout.specs.declared.sections.Layout.{Layout}
 use Rattle.layout.specs.Rules.{accepted}
 use Rattle.layout.proofs.SectionLaws.{section-outside}
@@ -19,7 +20,6 @@ use Rattle.machine.specs.declared.answer.Outcome.the-variants.{Back}
 use Rattle.machine.specs.State.{vector, resetAddress, isHeld}
 use Rattle.machine.specs.Interrupt.{gives, reset, plain, padded, interrupted, chained, resumed}
 use Rattle.machine.specs.Laws.{SameOutside, SameStep, isResuming, SeenAlike, alike, resuming}
-use Rattle.machine.proofs.Choice.{choose-both}
 use Rattle.machine.proofs.ViewLaws.{word-same, put-same}
 
 -- a machine: its registers, time and whether it is halted are seen, its previous address and what it holds are not

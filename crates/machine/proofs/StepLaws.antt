@@ -1,7 +1,7 @@
 -- How a step goes: its equation where it is known what the machine does, and the ways that there are. Assumes nothing.
 use mathlib.Core.Path.{_≡_, refl, sym, _∙_, ap, subst}
 use mathlib.Core.Bool.{Bool, true, false}
-use mathlib.Core.List.{List, [], _∷_}
+use mathlib.Core.List.{List}
 use Prim.Native.Nat.{ℕ, _+_}
 use Rattle.base.specs.Test.{if_then_else_, all}
 use Rattle.base.proofs.Tests.{if-false, choose}
@@ -26,19 +26,8 @@ use Rattle.machine.specs.Act.{memoryAfter}
 use Rattle.machine.specs.Interrupt.{Step, gives, due, reset, plain, padded, interrupted, chained, back, resumed}
 use Rattle.machine.specs.Step.{isHlt, executed, ordinary, performed, stepJudged, step}
 use Rattle.machine.proofs.PassLaws.{pass-clock}
-use Rattle.machine.proofs.JudgeLaws.{not-second, resuming, acts-unheld, acts-unprivileged}
+use Rattle.machine.proofs.JudgeLaws.{not-second, first-fails, second-fails, resuming, acts-unheld, acts-unprivileged}
 use Rattle.machine.proofs.InstructionLaws.{is-reti, alarmed-else, unprivileged}
-
--- where no visit is held nothing returns to one
-not-first : (t u : Bool) → t ≡ false → all (t ∷ u ∷ []) ≡ false
-unfolding all
-not-first t u e = if-false _ _ _ e
-
--- no other instruction than RETI returns
-stays : (v : Visit) (i : Instruction) → isReti i ≡ false → resuming (isHeld v) i ≡ false
-unfolding all if_then_else_
-stays Free i e = refl
-stays (Held previous age) i e = if-false _ _ _ e
 
 -- what a machine's instruction is judged
 abbrev pub judged : Layout → Machine → List ℕ → Judged
@@ -128,12 +117,18 @@ module _ (L : Layout) (stamps : List ℕ) (m : Machine) (mem : List ℕ) where
   performed-way (Held previous age) h i e =
       choose Way (isReti i)
       (λ r. rw (is-reti i r) (resumed-way previous age (record { holding = h; acting = e ∙ ap acts (is-reti i r) }) _ refl))
-      (λ r. ordinary-way i e (stays (m .visit) i r))
+      (λ r. ordinary-way i e (second-fails (isHeld (m .visit)) (isReti i) r))
 
   judged-way : (j : Judged) → judged L m mem ≡ j → Way (stepJudged L stamps m mem j)
   unfolding stepJudged
   judged-way (faulty c) e = resets c e
   judged-way (acts i) e = performed-way (m .visit) refl i e
+
+  -- what holds of a halted machine as it is, and of every way, holds of a step
+  pub step-case : (P : Step → Type 0) → (m .halted ≡ true → P (gives m mem Halted)) → ((s : Step) → Way s → P s)
+      → P (step L stamps m mem)
+  unfolding step
+  step-case P p q = choose P (m .halted) p (λ r. q _ (judged-way _ refl))
 
   -- an instruction adds its cycles; the slot is as they leave it, and inside the alarm too
   pub next-clock : (i : Instruction) → next i .time .clock ≡ m .time .clock + cyclesOf i
@@ -157,7 +152,7 @@ module _ (L : Layout) (stamps : List ℕ) (m : Machine) (mem : List ℕ) where
     runs-inside =
         record {
           acting = e;
-          staying = not-first _ (isReti i) (acts-unheld L _ (m .registers) mem (m .previous) i e h);
+          staying = first-fails _ _ (acts-unheld L _ (m .registers) mem (m .previous) i e h);
           going = unprivileged (m .registers) (m .time) i unprivileged-inside .0;
         }
 
@@ -188,10 +183,7 @@ module _ (L : Layout) (stamps : List ℕ) (m : Machine) (mem : List ℕ) where
     pub step-pads : (i : Instruction) (s : ℕ) → judged L m mem ≡ acts i → inside L (pc (m .registers)) ≡ true → due (next i) ≡ At s
         → step L stamps m mem ≡ padded L stamps s (next i) (bytes m mem i)
     unfolding interrupted
-    step-pads i s e h d =
-        step-runs i (runs-inside i e h)
-        ∙ ap (λ (t : Bool). interrupted L stamps t Ran (next i) (bytes m mem i) (due (next i))) h
-        ∙ ap (interrupted L stamps true Ran (next i) (bytes m mem i)) d
+    step-pads i s e h d = step-runs i (runs-inside i e h) ∙ rw (h, d)
 
     pub step-returns : (previous age : ℕ) → Returns previous age
         → step L stamps m mem ≡ resumed L stamps (afterReti stamps m) previous age (m .saved) mem (afterReti stamps m .slot)
@@ -203,14 +195,11 @@ module _ (L : Layout) (stamps : List ℕ) (m : Machine) (mem : List ℕ) where
       pub step-chains : afterReti stamps m .slot ≡ At s
           → step L stamps m mem ≡ chained L stamps (afterReti stamps m) (Held previous age) (m .saved) mem
       unfolding resumed
-      step-chains e =
-          step-returns previous age r ∙ ap (resumed L stamps (afterReti stamps m) previous age (m .saved) mem) e
+      step-chains e = step-returns previous age r ∙ ap (resumed L stamps (afterReti stamps m) previous age (m .saved) mem) e
 
       -- a return, into whose padding a request breaks
       pub step-pads-again : afterReti stamps m .slot ≡ Never → due (afterReturn L stamps m previous age) ≡ At s
           → step L stamps m mem ≡ padded L stamps s (afterReturn L stamps m previous age) mem
       unfolding interrupted resumed
       step-pads-again e d =
-          step-returns previous age r
-          ∙ ap (resumed L stamps (afterReti stamps m) previous age (m .saved) mem) e
-          ∙ ap (interrupted L stamps true Back (afterReturn L stamps m previous age) mem) d
+          step-returns previous age r ∙ ap (resumed L stamps (afterReti stamps m) previous age (m .saved) mem) e ∙ rw d

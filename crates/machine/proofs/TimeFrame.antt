@@ -1,45 +1,26 @@
 -- Cycles, an emptied slot and a set alarm keep a slot stamp above 0 and not above the clock, an alarm above it. Assumes nothing.
 use mathlib.Core.Path.{_≡_, refl, sym, _∙_}
 use mathlib.Core.Bool.{true, true≢false}
-use mathlib.Core.List.{List, [], _∷_}
+use mathlib.Core.List.{List}
 use Prim.Native.Nat.{ℕ, _+_, _≤_}
 use native.Mathlib.Omega.{arith}
-use lib.Dec.{leb, ltb, eqb}
-use borrow.Author.Tests.{eqb-false, ltb-true, ltb-false, leb-true, lt-ltb, le-leb}
+use lib.Dec.{ltb, eqb}
+use borrow.Author.Tests.{eqb-false, ltb-false, leb-true, lt-ltb, le-leb}
 use Rattle.base.proofs.Tests.{cases, each, every, choose}
 use Rattle.machine.specs.declared.state.Stamp.{Stamp}
 use Rattle.machine.specs.declared.state.Stamp.the-variants.{Never, At}
 use Rattle.machine.specs.declared.state.Time.{Time}
-use Rattle.machine.specs.Time.{happens, happening, earlier, earliest, request, filledBy, alarmLeft, pass, emptied, setAlarm}
+use Rattle.machine.specs.Time.{happens, filledBy, alarmLeft, pass, emptied, setAlarm}
 use Rattle.machine.specs.State.{framedSlot, framedAlarm}
+use Rattle.machine.proofs.PassLaws.{Within, request-within}
 
 -- ---- the slot
 
-abbrev Slot : ℕ → Stamp → Type 0
-Slot b s = framedSlot b s ≡ true
-
-happening-slot : (a b : ℕ) (s : Stamp) → framedSlot b (happening a b s) ≡ true
-unfolding happening
-happening-slot a b Never = refl
-happening-slot a b (At s) =
-    choose (Slot b) (happens a b s)
-    (λ e. let h = each _ e in every _ (lt-ltb 0 s (omega (arith, ltb-true)), (h .1 .0, tt))) (λ e. refl)
-
-earlier-slot : (b : ℕ) (s t : Stamp) → framedSlot b s ≡ true → framedSlot b t ≡ true → framedSlot b (earlier s t) ≡ true
-unfolding earlier
-earlier-slot b Never t p q = q
-earlier-slot b (At s) Never p q = p
-earlier-slot b (At s) (At t) p q = choose (Slot b) (leb s t) (λ e. p) (λ e. q)
-
-earliest-slot : (a b : ℕ) (stamps : List ℕ) → framedSlot b (earliest a b stamps) ≡ true
-unfolding earliest
-earliest-slot a b [] = refl
-earliest-slot a b (s ∷ stamps) = earlier-slot b _ _ (happening-slot a b (At s)) (earliest-slot a b stamps)
-
 -- a request that happens is not 0 and not above the clock
-pub request-slot : (stamps : List ℕ) (alarm : Stamp) (a b : ℕ) → framedSlot b (request stamps alarm a b) ≡ true
-unfolding request
-request-slot stamps alarm a b = earlier-slot b _ _ (earliest-slot a b stamps) (happening-slot a b alarm)
+within-slot : (a b : ℕ) (s : Stamp) → Within a b s → framedSlot b s ≡ true
+unfolding Within
+within-slot a b Never h = refl
+within-slot a b (At s) h = every _ (lt-ltb 0 s (omega arith), (le-leb s b (h .1), tt))
 
 filled-slot : (a b : ℕ) (s t : Stamp) → a ≤ b → framedSlot a s ≡ true → framedSlot b t ≡ true → framedSlot b (filledBy s t) ≡ true
 unfolding filledBy
@@ -69,7 +50,7 @@ pub pass-framed : (stamps : List ℕ) (n : ℕ) (t : Time) → FramedTime t → 
 unfolding pass
 pass-framed stamps n t f =
     record {
-      slot = filled-slot (t .clock) _ (t .slot) _ (omega arith) (f .slot) (request-slot stamps (t .alarm) _ _);
+      slot = filled-slot (t .clock) _ (t .slot) _ (omega arith) (f .slot) (within-slot _ _ _ (request-within stamps (t .alarm) _ _));
       alarm = alarm-left _ _ (t .alarm) (f .alarm);
     }
 

@@ -1,86 +1,36 @@
 -- A step keeps memory's length, writes its own side only, and reads the reset vector after its writes. Assumes nothing.
-use mathlib.Core.Path.{_≡_, refl, sym, _∙_, ap, subst}
+use mathlib.Core.Path.{_≡_, refl, sym, _∙_}
 use mathlib.Core.Logic.{_≢_}
-use mathlib.Core.Bool.{Bool, true, false, true≢false}
-use mathlib.Core.List.{List}
-use Prim.Native.Nat.{ℕ, _+_}
-use native.Mathlib.Omega.{arith}
-use lib.Dec.{eqb}
+use mathlib.Core.Bool.{true, false, true≢false}
+use mathlib.Core.List.{List, []}
+use Prim.Native.Nat.{ℕ}
 use lib.ListN.{length}
-use borrow.Author.Tests.{eqb-true, eqb-false}
 use Rattle.base.specs.Word.{even}
-use Rattle.base.proofs.Tests.{cases, if-id}
+use Rattle.base.proofs.Tests.{cases, each, choose}
 use Rattle.isa.specs.declared.instruction.Instruction.{Instruction}
-use Rattle.isa.specs.declared.instruction.Instruction.the-variants.{Store}
 use Rattle.layout.specs.declared.sections.Layout.{Layout}
 use Rattle.layout.specs.declared.access.Right.the-variants.{Write}
 use Rattle.layout.specs.Sections.{inside, outside}
 use Rattle.layout.specs.Rules.{accepted}
 use Rattle.layout.specs.Access.{may}
-use Rattle.layout.proofs.SectionLaws.{section-outside, data-not-outside, same-outside}
-use Rattle.layout.proofs.LayoutLaws.{word-in-one-section}
+use Rattle.layout.proofs.SectionLaws.{section-outside, data-not-outside}
 use Rattle.layout.proofs.AccessLaws.{elsewhere-touches-outside, inside-touches-data}
 use Rattle.machine.specs.declared.state.Machine.{Machine}
 use Rattle.machine.specs.declared.answer.Cause.{Cause}
-use Rattle.machine.specs.declared.answer.Outcome.{Outcome}
 use Rattle.machine.specs.declared.answer.Outcome.the-variants.{Reset}
 use Rattle.machine.specs.Memory.{byteAt, putWord}
 use Rattle.machine.specs.Registers.{register, pc, cleared}
 use Rattle.machine.specs.State.{resetAddress}
-use Rattle.machine.specs.Judge.{writes, allMay}
-use Rattle.machine.specs.Act.{memoryAfter}
-use Rattle.machine.specs.Interrupt.{Step, gives, reset, padded, chained}
+use Rattle.machine.specs.Judge.{acts}
+use Rattle.machine.specs.Interrupt.{Step, reset, plain, padded, chained}
 use Rattle.machine.specs.Step.{step}
 use Rattle.machine.specs.Laws.{LengthKept, WritesOwnSide, ResetAfterStore}
-use Rattle.machine.proofs.MemoryLaws.{put-length, put-other}
-use Rattle.machine.proofs.ActCases.{memory-after}
-use Rattle.machine.proofs.StepCases.{Check, quiet, pads, pushes, barred, Acts, Way, idle, faults, halts, runs, chains, returns, way-of}
-use Rattle.machine.proofs.Allowed.{allowed}
+use Rattle.machine.proofs.MemoryLaws.{put-length, even-side, put-side}
+use Rattle.machine.proofs.ActLaws.{kept-or-stored}
+use Rattle.machine.proofs.JudgeLaws.{each-may, acts-writes}
+use Rattle.machine.proofs.StepLaws.{judged, bytes, Way, resets, halts, runs, serves, pads, chains, returns, padsAgain, step-case}
 
--- ---- length
-
-module _ (L : Layout) (stamps : List ℕ) where
-  check-length : {b : Bool} {o : Outcome} {m : Machine} {mem : List ℕ} {s : Step} → Check L stamps b o m mem s
-      → length (s .memory) ≡ length mem
-  unfolding padded reset
-  check-length (quiet e) = refl
-  check-length (pads s b e) = refl
-  check-length (pushes s b e h l) = put-length _ _ _ ∙ put-length _ _ _
-  check-length (barred s b e n) = refl
-
-  after-length : (rs mem : List ℕ) (i : Instruction) → length (memoryAfter rs mem i) ≡ length mem
-  after-length rs mem i =
-      memory-after (λ (x : List ℕ). length x ≡ length mem) rs mem i refl (λ s d e. put-length mem _ _)
-
-  way-length : {m : Machine} {mem : List ℕ} {s : Step} → Way L stamps m mem s → length (s .memory) ≡ length mem
-  unfolding reset chained
-  way-length (idle h) = refl
-  way-length (faults c r e) = refl
-  way-length (halts i a h) = after-length _ _ i
-  way-length (runs i a h c) = check-length c ∙ after-length _ _ i
-  way-length (chains p a s r e) = refl
-  way-length (returns p a r e c) = check-length c
-
-pub length-kept : LengthKept
-unfolding LengthKept
-length-kept L stamps m mem = way-length L stamps (way-of L stamps m mem)
-
--- ---- sides
-
-module _ (L : Layout) (v : accepted L ≡ true) where
-  -- the two bytes of a word are on one side
-  pub word-side : (a : ℕ) → outside L (even a + 1) ≡ outside L (even a)
-  word-side a = same-outside L _ _ (word-in-one-section L a v)
-
-  pub even-side : (a : ℕ) → outside L (even a) ≡ outside L a
-  even-side a =
-      cases (eqb (even a) a) (λ e. ap (outside L) (eqb-true _ _ e))
-      (λ e. sym (word-side a) ∙ ap (outside L) (let n = eqb-false (even a) a e in omega arith))
-
-  -- a word on one side leaves the bytes of the other
-  pub put-side : (mem : List ℕ) (a w x : ℕ) → outside L x ≢ outside L (even a) → byteAt (putWord mem a w) x ≡ byteAt mem x
-  put-side mem a w x n =
-      put-other mem a w x (λ e. n (ap (outside L) e)) (λ e. n (ap (outside L) e ∙ word-side a))
+-- ---- memory
 
 -- what may be written from inside is not outside, and what may be from elsewhere is
 pub may-write-side : (L : Layout) (from a : ℕ) → may L from Write a ≡ true → outside L a ≢ inside L from
@@ -89,77 +39,91 @@ may-write-side L from a e f =
     (λ i. true≢false (sym (f ∙ i) ∙ data-not-outside L a (inside-touches-data L from a Write i refl e)))
     (λ i. true≢false (sym (section-outside L a (elsewhere-touches-outside L from a Write i refl e)) ∙ f ∙ i))
 
--- a word that a store may write
-store-may : (L : Layout) (rs : List ℕ) (i : Instruction) (s d : ℕ) → allMay L (pc rs) Write (writes rs i) ≡ true → i ≡ Store s d
-    → may L (pc rs) Write (even (register rs d)) ≡ true
-unfolding allMay
-store-may L rs i s d h e = sym (if-id _) ∙ subst (λ (j : Instruction). allMay L (pc rs) Write (writes rs j) ≡ true) e h
+-- a memory that is as long as before, and the same on the other side than an instruction's
+pub record OwnSide (L : Layout) (from : ℕ) (mem after : List ℕ) : Type 0 where
+  pub long : length after ≡ length mem
+  pub other : accepted L ≡ true → (a : ℕ) → inside L from ≡ outside L a → byteAt after a ≡ byteAt mem a
 
-module _ (L : Layout) (stamps : List ℕ) (v : accepted L ≡ true) (a : ℕ) where
-  -- an interrupt check writes nothing after an instruction inside, and after any other only outside
-  check-side : {b : Bool} {o : Outcome} {m : Machine} {mem : List ℕ} {s : Step} → (b ≡ false → outside L a ≡ false)
-      → Check L stamps b o m mem s → byteAt (s .memory) a ≡ byteAt mem a
-  unfolding padded reset
-  check-side f (quiet e) = refl
-  check-side f (pads s b e) = refl
-  check-side f (pushes s b e h l) =
-      let apart : (x : ℕ) → outside L x ≡ true → outside L a ≢ outside L (even x) =
-      λ x o e. true≢false (sym o ∙ sym (even-side L v x) ∙ sym e ∙ f b) in
-      put-side L v _ _ _ a (apart _ l) ∙ put-side L v _ _ _ a (apart _ h)
-  check-side f (barred s b e n) = refl
+module _ (L : Layout) (m : Machine) (mem : List ℕ) where
+  abbrev Own : List ℕ → Type 0
+  Own after = OwnSide L (pc (m .registers)) mem after
 
-  after-side : {m : Machine} {mem : List ℕ} {i : Instruction} → inside L (pc (m .registers)) ≡ outside L a → Acts L m mem i
-      → byteAt (memoryAfter (m .registers) mem i) a ≡ byteAt mem a
-  after-side {m} {mem} {i} k x =
-      memory-after (λ (y : List ℕ). byteAt y a ≡ byteAt mem a) (m .registers) mem i refl λ s d e.
-      put-side L v mem _ _ a λ f.
-      may-write-side L _ _ (store-may L _ i s d (allowed L _ _ mem _ i (x .judged) .writes) e) (sym f ∙ sym k)
+  kept-own : Own mem
+  kept-own = record { long = refl; other = λ v a k. refl }
 
-  way-side : {m : Machine} {mem : List ℕ} {s : Step} → inside L (pc (m .registers)) ≡ outside L a → Way L stamps m mem s
-      → byteAt (s .memory) a ≡ byteAt mem a
-  unfolding reset chained
-  way-side k (idle h) = refl
-  way-side k (faults c r e) = refl
-  way-side k (halts i x h) = after-side k x
-  way-side k (runs i x h c) = check-side (λ b. sym k ∙ b) c ∙ after-side k x
-  way-side k (chains p n s r e) = refl
-  way-side k (returns p n r e c) = check-side (λ b. absurd (true≢false b)) c
+  put-own : (x : List ℕ) (b w : ℕ) → (accepted L ≡ true → outside L (even b) ≢ inside L (pc (m .registers))) → Own x
+      → Own (putWord x b w)
+  put-own x b w n o =
+      record {
+        long = put-length x b w ∙ o .long;
+        other = λ v a k. put-side L v x b w a (λ f. n v (sym f ∙ sym k)) ∙ o .other v a k;
+      }
+
+  pub acted-own : (i : Instruction) → judged L m mem ≡ acts i → Own (bytes m mem i)
+  acted-own i e =
+      kept-or-stored (λ (f : List ℕ → List ℕ). Own (f mem)) (m .registers) i kept-own λ b w h.
+      let may-write = each-may L _ Write b [] (rw h at (acts-writes L _ _ mem _ i e)) .0 in
+      put-own mem b w (λ v. may-write-side L _ _ may-write) kept-own
+
+  module _ (stamps : List ℕ) where
+    -- a plain interrupt writes only outside
+    plain-own : (next : Machine) (x : List ℕ) → inside L (pc (m .registers)) ≡ false → Own x → Own (plain L stamps next x .memory)
+    unfolding plain reset
+    plain-own next x i o =
+        let apart : (b : ℕ) → outside L b ≡ true → accepted L ≡ true → outside L (even b) ≢ inside L (pc (m .registers)) =
+        λ b h v f. true≢false (sym h ∙ sym (even-side L v b) ∙ f ∙ i) in
+        choose (λ (s : Step). Own (s .memory)) _
+        (λ e. let h = each _ e in put-own _ _ _ (apart _ (h .1 .0)) (put-own x _ _ (apart _ (h .0)) o)) (λ e. o)
+
+    way-own : (s : Step) → Way L stamps m mem s → Own (s .memory)
+    unfolding reset padded chained
+    way-own s (resets c e) = kept-own
+    way-own s (halts i e h) = acted-own i e
+    way-own s (runs i r d) = acted-own i (r .acting)
+    way-own s (serves i u r o d) = plain-own _ _ o (acted-own i (r .acting))
+    way-own s (pads i u r o d) = acted-own i (r .acting)
+    way-own s (chains p a u r d) = kept-own
+    way-own s (returns p a r n d) = kept-own
+    way-own s (padsAgain p a u r n d) = kept-own
+
+    step-own : Own (step L stamps m mem .memory)
+    step-own = step-case L stamps m mem (λ (s : Step). Own (s .memory)) (λ h. kept-own) way-own
+
+pub length-kept : LengthKept
+unfolding LengthKept
+length-kept L stamps m mem = step-own L m mem stamps .long
 
 pub writes-own-side : WritesOwnSide
 unfolding WritesOwnSide
 writes-own-side L stamps m mem a v =
-    let kept : inside L (pc (m .registers)) ≡ outside L a → byteAt (step L stamps m mem .memory) a ≡ byteAt mem a =
-    λ k. way-side L stamps v a k (way-of L stamps m mem) in
-    (λ i o. kept (i ∙ sym o), λ i o. kept (i ∙ sym o))
+    let kept = step-own L m mem stamps .other v a in (λ i o. kept (i ∙ sym o), λ i o. kept (i ∙ sym o))
 
 -- ---- reset
 
--- a reset's pc is the reset vector's word in the memory that it leaves
+-- after a reset pc is the reset vector's word in the memory that it leaves
 abbrev FromVector : Step → Type 0
-FromVector s = pc (s .machine .registers) ≡ resetAddress (s .memory)
+FromVector s = (c : Cause) → s .outcome ≡ Reset c → pc (s .machine .registers) ≡ resetAddress (s .memory)
 
 module _ (L : Layout) (stamps : List ℕ) where
   reset-vector : (c : Cause) (m : Machine) (mem : List ℕ) → FromVector (reset L stamps c m mem)
   unfolding reset cleared register
-  reset-vector c m mem = refl
+  reset-vector c m mem d e = refl
 
-  check-vector : {b : Bool} {o : Outcome} {m : Machine} {mem : List ℕ} {s : Step} (c : Cause) → (o ≡ Reset c → FromVector (gives m mem o))
-      → Check L stamps b o m mem s → s .outcome ≡ Reset c → FromVector s
-  unfolding padded
-  check-vector c n (quiet e) f = n f
-  check-vector c n (pads s b e) f = cc
-  check-vector c n (pushes s b e h l) f = cc
-  check-vector {m = m} {mem = mem} c n (barred s b e h) f = reset-vector _ m mem
+  plain-vector : (m : Machine) (mem : List ℕ) → FromVector (plain L stamps m mem)
+  unfolding plain
+  plain-vector m mem = choose FromVector _ (λ e c f. cc) (λ e. reset-vector _ m mem)
 
-  way-vector : {m : Machine} {mem : List ℕ} {s : Step} (c : Cause) → Way L stamps m mem s → s .outcome ≡ Reset c → FromVector s
-  unfolding chained
-  way-vector c (idle h) f = cc
-  way-vector {m} {mem} c (faults d r e) f = reset-vector d m mem
-  way-vector c (halts i x h) f = cc
-  way-vector c (runs i x h k) f = check-vector c (λ e. cc) k f
-  way-vector c (chains p n s r e) f = cc
-  way-vector c (returns p n r e k) f = check-vector c (λ e. cc) k f
+  way-vector : (m : Machine) (mem : List ℕ) (s : Step) → Way L stamps m mem s → FromVector s
+  unfolding padded chained
+  way-vector m mem s (resets d e) c f = reset-vector d m mem c f
+  way-vector m mem s (halts i e h) c f = cc
+  way-vector m mem s (runs i r d) c f = cc
+  way-vector m mem s (serves i u r o d) c f = plain-vector _ _ c f
+  way-vector m mem s (pads i u r o d) c f = cc
+  way-vector m mem s (chains p a u r d) c f = cc
+  way-vector m mem s (returns p a r n d) c f = cc
+  way-vector m mem s (padsAgain p a u r n d) c f = cc
 
 pub reset-after-store : ResetAfterStore
 unfolding ResetAfterStore
-reset-after-store L stamps m mem c e = way-vector L stamps c (way-of L stamps m mem) e
+reset-after-store L stamps m mem = step-case L stamps m mem FromVector (λ h c f. cc) (way-vector L stamps m mem)

@@ -15,7 +15,8 @@ use Rattle.machine.specs.Laws.{PassAdds, PaddedByStamp, TwelveInside, Tw
 use Rattle.machine.proofs.PassLaws.{pass-adds, pass-clock, pass-filled}
 use Rattle.machine.proofs.InstructionLaws.{cycles-range}
 use Rattle.machine.proofs.StepLaws.{step-pads, step-pads-again, afterReti, afterReturn, next-inside}
-use Rattle.machine.proofs.QuietLaws.{next-gie, at-due, held-framed}
+use Rattle.machine.proofs.GieLaws.{next-gie, at-due}
+use Rattle.machine.proofs.FrameLaws.{held-framed}
 
 -- whatever cycles n passed since t, with the padding they come to 6 after the stamp
 padding : (t n s : ℕ) → t < s → s ≤ t + n → n ≤ 6 → n + (6 - ageOf (t + n) s) ≡ s + 6 - t
@@ -53,6 +54,6 @@ pub twelve-in-return : TwelveInReturn
 unfolding TwelveInReturn back
 twelve-in-return L stamps m mem previous age s r f v e n h =
     let k = held-framed L m previous age f v in
-    let d = at-due (afterReturn L stamps m previous age) s (k .1) h in
+    let d = at-due (afterReturn L stamps m previous age) s (k .gie-set) h in
     subst (Twelve s) (sym (step-pads-again L stamps m mem r previous age s (record { holding = v; acting = e }) n d))
-    (padded-twelve L stamps (afterReturn L stamps m previous age) mem (afterReti stamps m) age s n (k .0) refl h)
+    (padded-twelve L stamps (afterReturn L stamps m previous age) mem (afterReti stamps m) age s n (k .age-bound) refl h)

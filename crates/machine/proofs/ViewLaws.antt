@@ -1,19 +1,17 @@
 -- Memories that are seen alike from outside: their words, and a word stored into them. Assumes nothing.
-use mathlib.Core.Path.{_≡_, refl, sym, _∙_, ap}
-use mathlib.Core.Bool.{true, false, true≢false}
+use mathlib.Core.Path.{_≡_, refl, sym, _∙_}
+use mathlib.Core.Bool.{true}
 use mathlib.Core.List.{List, [], _∷_}
-use Prim.Native.Nat.{ℕ, zero, suc, _+_}
+use Prim.Native.Nat.{ℕ, zero, suc}
 use native.Mathlib.Omega.{arith}
 use lib.ListN.{length, getD, set, length-set}
-use lib.Seq.{getD-set-other}
 use Rattle.base.specs.Word.{even}
 use Rattle.layout.specs.declared.sections.Layout.{Layout}
 use Rattle.layout.specs.Sections.{outside}
 use Rattle.layout.specs.Rules.{accepted}
-use Rattle.layout.proofs.SectionLaws.{same-outside}
-use Rattle.layout.proofs.LayoutLaws.{word-in-one-section}
 use Rattle.machine.specs.Memory.{byteAt, wordAt, putWord}
 use Rattle.machine.specs.Laws.{SameOutside}
+use Rattle.machine.proofs.MemoryLaws.{word-side}
 
 -- the same byte set in two lists of one length
 set-alike : (mem bytes : List ℕ) (i v x : ℕ) → length mem ≡ length bytes → getD mem x 0 ≡ getD bytes x 0
@@ -37,37 +35,19 @@ module _ (L : Layout) where
   pub same-trans : {mem bytes others : List ℕ} → SameOutside L mem bytes → SameOutside L bytes others → SameOutside L mem others
   same-trans s t = record { long = s .long ∙ t .long; same = λ a o. s .same a o ∙ t .same a o }
 
-  -- one byte set: the same on both sides, or one that is not outside
+  -- one byte set on both sides
   set-same : {mem bytes : List ℕ} (i v : ℕ) → SameOutside L mem bytes → SameOutside L (set mem i v) (set bytes i v)
   unfolding byteAt
   set-same {mem} {bytes} i v s =
       record { long = simp length-set (s .long); same = λ a o. set-alike mem bytes i v a (s .long) (s .same a o) }
-
-  set-unseen : (mem : List ℕ) (i v : ℕ) → outside L i ≡ false → SameOutside L mem (set mem i v)
-  unfolding byteAt
-  set-unseen mem i v n =
-      record {
-        long = simp length-set;
-        same = λ a o. sym (getD-set-other mem i a v 0 (λ e. true≢false (sym o ∙ ap (outside L) e ∙ n)));
-      }
 
   -- a word stored on both sides
   pub put-same : {mem bytes : List ℕ} (a w : ℕ) → SameOutside L mem bytes → SameOutside L (putWord mem a w) (putWord bytes a w)
   unfolding putWord
   put-same a w s = set-same _ _ (set-same _ _ s)
 
-  module _ (fit : accepted L ≡ true) where
-    -- the bytes of a word are both outside or neither is
-    pub word-outside : (a : ℕ) → outside L (even a + 1) ≡ outside L (even a)
-    word-outside a = same-outside L _ _ (word-in-one-section L a fit)
-
-    -- a word that is outside is the same
-    pub word-same : {mem bytes : List ℕ} (a : ℕ) → SameOutside L mem bytes → outside L (even a) ≡ true
-        → wordAt mem a ≡ wordAt bytes a
-    unfolding wordAt
-    word-same a s o = cc (s .same _ o, s .same _ (word-outside a ∙ o))
-
-    -- a word stored into a section is not seen
-    pub put-unseen : (mem : List ℕ) (a w : ℕ) → outside L (even a) ≡ false → SameOutside L mem (putWord mem a w)
-    unfolding putWord
-    put-unseen mem a w n = same-trans (set-unseen mem _ _ n) (set-unseen _ _ _ (word-outside a ∙ n))
+  -- a word that is outside is the same
+  pub word-same : accepted L ≡ true → {mem bytes : List ℕ} (a : ℕ) → SameOutside L mem bytes → outside L (even a) ≡ true
+      → wordAt mem a ≡ wordAt bytes a
+  unfolding wordAt
+  word-same fit a s o = cc (s .same _ o, s .same _ (word-side L fit a ∙ o))

@@ -4,8 +4,7 @@ use mathlib.Core.Bool.{Bool, true, false, true≢false}
 use mathlib.Core.List.{List}
 use Prim.Native.Nat.{ℕ, _+_, _-_, _≤_, _<_, min}
 use native.Mathlib.Omega.{arith}
-use borrow.Author.Tests.{leb-true}
-use Rattle.base.proofs.Tests.{cases, each, choose}
+use Rattle.base.proofs.Tests.{cases, choose}
 use Rattle.isa.specs.declared.instruction.Instruction.{Instruction}
 use Rattle.isa.specs.declared.instruction.Instruction.the-variants.{Reti}
 use Rattle.isa.specs.Cycles.{cyclesOf}
@@ -27,7 +26,7 @@ use Rattle.machine.specs.declared.answer.Outcome.{Outcome}
 use Rattle.machine.specs.Registers.{pc, sr, cleared}
 use Rattle.machine.specs.Outcome.{isReset}
 use Rattle.machine.specs.Time.{pass, emptied}
-use Rattle.machine.specs.State.{vector, isHeld, resetAddress, framedVisit, framed, start}
+use Rattle.machine.specs.State.{vector, isHeld, resetAddress, framed, start}
 use Rattle.machine.specs.Judge.{acts}
 use Rattle.machine.specs.Interrupt.{Step, gives, ageOf, due, reset, plain, padded, chained, back}
 use Rattle.machine.specs.Step.{executed, step}
@@ -36,8 +35,9 @@ use Rattle.machine.proofs.PassLaws.{pass-clock, pass-filled}
 use Rattle.machine.proofs.JudgeLaws.{acts-executable, acts-unheld}
 use Rattle.machine.proofs.InstructionLaws.{cycles-range}
 use Rattle.machine.proofs.StepLaws.{judged, next, afterReti, afterReturn, Way, resets, halts, runs, serves, pads, chains, returns, padsAgain, way, runs-inside}
-use Rattle.machine.proofs.QuietLaws.{due-at, quiet-at-start, quiet-kept}
-use Rattle.machine.proofs.FrameLaws.{framed-at-start, frame-kept}
+use Rattle.machine.proofs.GieLaws.{due-at}
+use Rattle.machine.proofs.QuietLaws.{quiet-at-start, quiet-kept}
+use Rattle.machine.proofs.FrameLaws.{framed-at-start, frame-kept, held-framed}
 use Rattle.machine.proofs.TwelveLaws.{padded-by-stamp}
 use Rattle.machine.proofs.ConfinedLaws.{inside-confined}
 use Rattle.machine.proofs.ViewLaws.{same-refl}
@@ -66,20 +66,6 @@ pub steady-next : (L : Layout) (stamps : List ℕ) (m : Machine) (mem : List ℕ
 unfolding FrameKept QuietKept
 steady-next L stamps m mem fit r s =
     record { frame = frame-kept L stamps m mem fit (s .frame); quiet = quiet-kept L stamps m mem (s .frame) r (s .quiet r) }
-
--- what is held: its age at most 6, GIE set, its previous address inside
-pub record Holding (L : Layout) (saved : List ℕ) (previous age : ℕ) : Type 0 where
-  pub young : age ≤ 6
-  pub enabled : gie (sr saved) ≡ true
-  pub within : inside L previous ≡ true
-
-pub holding : (L : Layout) (m : Machine) (previous age : ℕ) → framed L m ≡ true → m .visit ≡ Held previous age
-    → Holding L (m .saved) previous age
-unfolding framed
-holding L m previous age f h =
-    let v : framedVisit L (m .saved) (Held previous age) ≡ true = ap (framedVisit L (m .saved)) (sym h) ∙ each _ f .1 .1 .1 .1 .0 in
-    let k = each _ v in
-    record { young = leb-true age 6 (k .0); enabled = k .1 .1 .0; within = k .1 .1 .1 .0 }
 
 module _ (L : Layout) (stamps : List ℕ) where
   -- ---- in the module, n cycles on from a time t
@@ -252,15 +238,15 @@ module _ (L : Layout) (fit : accepted L ≡ true) (stamps : List ℕ) (m : Machi
     service-of s (pads i u r n d) = absurd (true≢false (sym n ∙ elsewhere i (r .acting)))
     service-of s (chains p a u r e) = kept (sym (r .holding)) (vector-free L fit) refl refl
     service-of s (returns p a r e d) =
-        let h = holding L m p a (steady .frame) (r .holding) in
+        let h = held-framed L m p a (steady .frame) (r .holding) in
         resuming p a (r .holding) refl refl e
         (check-walks L stamps (afterReti stamps m) true mem a (afterReturn L stamps m p a) mem
-        (h .young) (λ _. e) refl (h .enabled) (same-refl L mem) _ refl refl refl (h .within))
+        (h .age-bound) (λ _. e) refl (h .gie-set) (same-refl L mem) _ refl refl refl (h .previous-inside))
     service-of s (padsAgain p a u r e d) =
-        let h = holding L m p a (steady .frame) (r .holding) in
+        let h = held-framed L m p a (steady .frame) (r .holding) in
         resuming p a (r .holding) refl refl e
         (check-strikes L stamps (afterReti stamps m) true mem a (afterReturn L stamps m p a) mem
-        (h .young) (λ _. e) refl (h .enabled) (same-refl L mem) u d)
+        (h .age-bound) (λ _. e) refl (h .gie-set) (same-refl L mem) u d)
 
   module _ (steady : Steady L m) (running : m .halted ≡ false) (free : m .visit ≡ Free)
       (o : outside L (pc (m .registers)) ≡ false) where

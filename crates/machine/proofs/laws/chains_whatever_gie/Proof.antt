@@ -1,4 +1,4 @@
-use Rattle.machine.proofs.QuietLaws.{chains-whatever-gie}
+use Rattle.machine.proofs.GieLaws.{chains-whatever-gie}
 use Rattle.machine.proofs.laws.chains_whatever_gie.Statement.{statement}
 use Rattle.machine.proofs.laws.chains_whatever_gie.Tie as tie
 

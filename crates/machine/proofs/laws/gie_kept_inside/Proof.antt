@@ -1,4 +1,4 @@
-use Rattle.machine.proofs.QuietLaws.{gie-kept-inside}
+use Rattle.machine.proofs.GieLaws.{gie-kept-inside}
 use Rattle.machine.proofs.laws.gie_kept_inside.Statement.{statement}
 use Rattle.machine.proofs.laws.gie_kept_inside.Tie as tie
 
