@@ -22,6 +22,7 @@ notZero r = not (eqb r 0)
 abbrev pub signTurns : Bool → Bool → Bool → Bool
 signTurns a b r = all (Bool·beq a b ∷ not (Bool·beq a r) ∷ [])
 
+-- a result with its carry and overflow
 abbrev computes : ℕ → Bool → Bool → Computed
 computes r c v = record { result = r; carry = c; overflow = v }
 

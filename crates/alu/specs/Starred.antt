@@ -12,22 +12,27 @@ pub record Sum : Type 0 where
   pub result : ℕ
   pub status : ℕ
 
+-- a result with a status
 abbrev pub sum : ℕ → ℕ → Sum
 sum r f = record { result = r; status = f }
 
+-- what an operation gives from the source s and the destination d
 abbrev pub summed : Operation → ℕ → ℕ → Sum
 summed o s d = sum (computed o s d .result) (setFlags 0 (computed o s d))
 
--- a status with Z alone; with N and C; with N, C and V
+-- a status with Z alone
 abbrev pub Z : ℕ
 Z = 0x002
 
+-- a status with N and C
 abbrev pub NC : ℕ
 NC = 0x005
 
+-- a status with N, C and V
 abbrev pub NCV : ℕ
 NCV = 0x105
 
+-- FFFF + 1, 7FFF + 1, 0 - 1
 abbrev pub sumCases : List {1} Case
 sumCases =
     case (summed Add 1 0xFFFF) (sum 0 Z)

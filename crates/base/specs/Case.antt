@@ -2,6 +2,7 @@
 use mathlib.Core.Path.{_≡_}
 use mathlib.Core.List.{List, [], _∷_}
 
+-- a case: what is given, and what is settled
 pub record Case : Type 1 where
   pub A : Type 0
   pub given : A

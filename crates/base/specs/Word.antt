@@ -7,9 +7,11 @@ use lib.Dec.{eqb}
 abbrev pub low16 : ℕ → ℕ
 low16 n = n % 65536
 
+-- a + b, its low 16 bits
 abbrev pub sum16 : ℕ → ℕ → ℕ
 sum16 a b = low16 (a + b)
 
+-- a - b, its low 16 bits
 abbrev pub difference16 : ℕ → ℕ → ℕ
 difference16 a b = low16 (a + (65536 - b))
 
@@ -17,5 +19,6 @@ difference16 a b = low16 (a + (65536 - b))
 abbrev pub even : ℕ → ℕ
 even a = a / 2 * 2
 
+-- an even address
 abbrev pub isEven : ℕ → Bool
 isEven a = eqb (a % 2) 0

@@ -27,14 +27,18 @@ rowNumber NOT = 12
 abbrev pub kindOf : Instruction → ℕ
 kindOf i = rowNumber (encodingOf i .row)
 
+-- the cycles, by kind
 abbrev pub cycleTable : List ℕ
 cycleTable = 1 ∷ 2 ∷ 2 ∷ 2 ∷ 5 ∷ 1 ∷ 2 ∷ 1 ∷ 2 ∷ 4 ∷ 2 ∷ 1 ∷ 2 ∷ []
 
+-- the lengths in words, by kind
 abbrev pub lengthTable : List ℕ
 lengthTable = 1 ∷ 1 ∷ 1 ∷ 1 ∷ 1 ∷ 1 ∷ 1 ∷ 1 ∷ 1 ∷ 2 ∷ 2 ∷ 1 ∷ 2 ∷ []
 
+-- the cycles of an instruction
 abbrev pub cyclesOf : Instruction → ℕ
 cyclesOf i = getD cycleTable (kindOf i) 0
 
+-- the length of an instruction, in words
 abbrev pub lengthOf : Instruction → ℕ
 lengthOf i = getD lengthTable (kindOf i) 0

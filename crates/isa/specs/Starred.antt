@@ -5,6 +5,7 @@ use Rattle.isa.specs.declared.instruction.Instruction.the-variants.{Nop,
 use Rattle.isa.specs.declared.read.Reading.the-variants.{Decoded}
 use Rattle.isa.specs.Words.{reading, readingRefusal}
 
+-- 4303 is NOP, 4500 is JMP &5, 0000 and E035 FFFE do not decode
 abbrev pub wordCases : List {1} Case
 wordCases =
     case (reading 0x4303 0x0000) (Decoded Nop 1)

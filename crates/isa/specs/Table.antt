@@ -27,6 +27,7 @@ pub record Line : Type 0 where
   pub takes : ℕ → ℕ → Bool
   pub second : Second
 
+-- a line in the order of its columns
 abbrev line : ℕ → Place → Place → (ℕ → ℕ → Bool) → Second → Line
 line f s d t w = record { fixed = f; s = s; d = d; takes = t; second = w }
 
@@ -34,6 +35,7 @@ line f s d t w = record { fixed = f; s = s; d = d; takes = t; second = w }
 unfoldable pub pointer : ℕ → Bool
 pointer n = all (not (eqb n 0) ∷ not (eqb n 2) ∷ not (eqb n 3) ∷ [])
 
+-- any registers may stand there
 abbrev pub anyRegisters : ℕ → ℕ → Bool
 anyRegisters s d = true
 
@@ -41,9 +43,11 @@ anyRegisters s d = true
 abbrev pub movable : ℕ → ℕ → Bool
 movable s d = all (not (eqb d 0) ∷ not (all (eqb s 3 ∷ eqb d 3 ∷ [])) ∷ [])
 
+-- MOV @s d: s not 0, 2, 3
 abbrev pub sPoints : ℕ → ℕ → Bool
 sPoints s d = pointer s
 
+-- MOV s 0(d): d not 0, 2, 3
 abbrev pub dPoints : ℕ → ℕ → Bool
 dPoints s d = pointer d
 
@@ -70,6 +74,7 @@ lineOf IMMEDIATE = line 0x4030 nowhere last anyRegisters anything
 lineOf (COMPUTE o) = line (operationWord o) second last anyRegisters none
 lineOf NOT = line 0xE030 nowhere last anyRegisters (exactly 0xFFFF)
 
+-- the rows in document 01's order
 abbrev pub rows : List Row
 rows =
     HLT ∷ IN ∷ OUT ∷ JZ ∷ RETI ∷ NOP ∷ JMP ∷ MOV ∷ LOAD ∷ STORE ∷ IMMEDIATE
@@ -107,6 +112,7 @@ firstWord r s d = lineOf r .fixed + s * weight (lineOf r .s) + d * weight (lineO
 abbrev pub sDigit : Row → ℕ → ℕ
 sDigit r w = digitAt (lineOf r .s) w
 
+-- the digit d of a first word in a row
 abbrev pub dDigit : Row → ℕ → ℕ
 dDigit r w = digitAt (lineOf r .d) w
 
@@ -126,6 +132,7 @@ instructionOf IMMEDIATE s d w = Mov (Constant w) d
 instructionOf (COMPUTE o) s d w = Compute o s d
 instructionOf NOT s d w = Not d
 
+-- a row with its registers and constant
 abbrev encoded : Row → ℕ → ℕ → ℕ → Encoding
 encoded r s d w = record { row = r; source = s; destination = d; word = w }
 

@@ -24,6 +24,7 @@ use Rattle.isa.specs.Cycles.{lengthOf}
 unfoldable pub hasWord : Row → ℕ → Bool
 hasWord r w = all (eqb w (firstWord r (sDigit r w) (dDigit r w)) ∷ lineOf r .takes (sDigit r w) (dDigit r w) ∷ [])
 
+-- the first of these rows that has the word
 unfoldable pub begunIn : List Row → ℕ → Begun
 begunIn [] w = Nothing
 begunIn (r ∷ rs) w = if hasWord r w then Found r (sDigit r w) (dDigit r w) else begunIn rs w
@@ -37,6 +38,7 @@ unfoldable pub twoWords : Begun → Bool
 twoWords Nothing = false
 twoWords (Found r s d) = hasSecond (lineOf r .second)
 
+-- an instruction with its length
 abbrev decoded : Instruction → Reading
 decoded i = Decoded i (lengthOf i)
 
@@ -69,6 +71,7 @@ wordsOf none w v = One w
 wordsOf (exactly u) w v = Two w u
 wordsOf anything w v = Two w v
 
+-- the words of an encoding, if it has words
 unfoldable pub written : Encoding → Writing
 written e =
     if encodable e then wordsOf (lineOf (e .row) .second) (firstWord (e .row) (e .source) (e .destination)) (e .word)

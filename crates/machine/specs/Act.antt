@@ -34,6 +34,7 @@ module _ (inside : Bool) (rs : List ℕ) where
   stored Cmp next d r = next
   stored And next d r = write inside next d r
 
+  -- the result is stored, then its flags are set
   abbrev computes : Operation → List ℕ → ℕ → Computed → List ℕ
   computes o next d c = flagged (stored o next d (c .result)) c
 

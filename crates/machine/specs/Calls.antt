@@ -43,6 +43,7 @@ pub record Test : Type 0 where
   pub refusal : Refusal
   pub holds : Bool
 
+-- a refusal with its test
 abbrev test : Refusal → Bool → Test
 test r h = record { refusal = r; holds = h }
 
@@ -61,12 +62,14 @@ abbrev pub startTests : List ℕ → List Test
 startTests mem = test Map (wholeMemory mem) ∷ []
 
 module _ (L : Layout) (stamps : List ℕ) where
+  -- run: 1 to 6
   abbrev pub runTests : ℕ → World → List Test
   runTests budget w =
       test Map (wholeMemory (w .memory)) ∷ test Fence (accepted L) ∷ test Timetable (timetable stamps)
       ∷ test Frame (framed L (w .machine)) ∷ test Distance (leb budget 1000000)
       ∷ test Clock (leb (w .machine .time .clock) lastClock) ∷ []
 
+  -- step: 1 to 4 and 6
   abbrev pub stepTests : World → List Test
   stepTests w =
       test Map (wholeMemory (w .memory)) ∷ test Fence (accepted L) ∷ test Timetable (timetable stamps)
@@ -78,9 +81,11 @@ pub record Called (A : Type 0) : Type 0 where
   pub memory : List ℕ
   pub answer : A
 
+-- a machine, memory and answer
 abbrev called : {A : Type 0} → Machine → List ℕ → A → Called A
 called m mem a = record { machine = m; memory = mem; answer = a }
 
+-- what start leaves, by the verdict
 abbrev pub startAnswered : List ℕ → Verdict → Called StartAnswer
 startAnswered mem taken = called (start mem) mem Started
 startAnswered mem (refused r) = called (start []) mem (NotStarted r)
@@ -90,6 +95,7 @@ unfoldable pub startCall : List ℕ → Called StartAnswer
 startCall mem = startAnswered mem (verdict (startTests mem))
 
 module _ (L : Layout) (stamps : List ℕ) where
+  -- what a step call leaves, by the verdict
   abbrev pub stepAnswered : World → Verdict → Called StepAnswer
   stepAnswered w taken =
       let s = stepOf L stamps w in called (s .machine) (s .memory) (Stepped (s .outcome))
@@ -99,6 +105,7 @@ module _ (L : Layout) (stamps : List ℕ) where
   unfoldable pub stepCall : World → Called StepAnswer
   stepCall w = stepAnswered w (verdict (stepTests L stamps w))
 
+  -- what a run call leaves, by the verdict
   abbrev pub runAnswered : ℕ → World → Verdict → Called RunAnswer
   runAnswered budget w taken =
       let s = run L stamps budget w in called (s .machine) (s .memory) (HasRun (s .end) (s .steps))
@@ -113,10 +120,12 @@ abbrev pub startRefusal : StartAnswer → ℕ
 startRefusal Started = 0
 startRefusal (NotStarted r) = refusalNumber r
 
+-- of a step call's answer
 abbrev pub stepRefusal : StepAnswer → ℕ
 stepRefusal (Stepped o) = 0
 stepRefusal (NotStepped r) = refusalNumber r
 
+-- of a run call's answer
 abbrev pub runRefusal : RunAnswer → ℕ
 runRefusal (HasRun e n) = 0
 runRefusal (NotRun r) = refusalNumber r

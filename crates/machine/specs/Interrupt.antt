@@ -29,6 +29,7 @@ pub record Step : Type 0 where
   pub memory : List ℕ
   pub outcome : Outcome
 
+-- a machine, memory and outcome
 abbrev pub gives : Machine → List ℕ → Outcome → Step
 gives m mem o = record { machine = m; memory = mem; outcome = o }
 

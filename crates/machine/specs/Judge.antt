@@ -77,6 +77,7 @@ privileged (Store s d) = false
 privileged (Compute o s d) = false
 privileged (Not d) = false
 
+-- the instruction is RETI
 abbrev pub isReti : Instruction → Bool
 isReti Hlt = false
 isReti (In d) = false

@@ -104,6 +104,7 @@ Quiet m = gie (sr (m .registers)) ≡ true → m .time .slot ≡ Never
 unfoldable pub QuietAtStart : Type 0
 QuietAtStart = (mem : List ℕ) → Quiet (start mem)
 
+-- and after every step
 unfoldable pub QuietKept : Type 0
 QuietKept =
     (L : Layout) (stamps : List ℕ) (m : Machine) (mem : List ℕ) → framed L m ≡ true → m .halted ≡ false → Quiet m
@@ -208,6 +209,7 @@ pub record EndsSo (stop : Stop) (budget : ℕ) : Type 0 where
   pub spent : stop .end ≡ Spent
       → (stop .machine .halted ≡ false) × (stop .machine .time .clock ≤ lastClock) × (stop .steps ≡ budget)
 
+-- so of every run
 unfoldable pub RunEnds : Type 0
 RunEnds = (L : Layout) (stamps : List ℕ) (budget : ℕ) (w : World) → EndsSo (run L stamps budget w) budget
 
@@ -273,6 +275,7 @@ pub record Confined (L : Layout) (stamps : List ℕ) (m : Machine) (mem : List �
   pub memory : SameOutside L mem (memoryAfter (m .registers) mem i)
   pub enabled : gie (sr (executed L stamps m mem i .registers)) ≡ gie (sr (m .registers))
 
+-- so of every instruction that acts inside, none being held
 unfoldable pub InsideConfined : Type 0
 InsideConfined =
     (L : Layout) (stamps : List ℕ) (m : Machine) (mem : List ℕ) (i : Instruction) → accepted L ≡ true

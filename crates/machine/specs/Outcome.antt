@@ -37,6 +37,7 @@ endLetter HaltedEnd = 0x48
 endLetter Clock = 0x54
 endLetter Spent = 0x53
 
+-- the step reset the machine
 abbrev pub isReset : Outcome → Bool
 isReset Ran = false
 isReset Plain = false

@@ -38,10 +38,12 @@ pub record Move : Type 0 where
   pub before : World
   pub after : Step
 
+-- the world that a step leaves
 abbrev pub worldAfter : Step → World
 worldAfter s = world (s .machine) (s .memory)
 
 module _ (L : Layout) (stamps : List ℕ) where
+  -- the step of a world
   abbrev pub stepOf : World → Step
   stepOf w = step L stamps (w .machine) (w .memory)
 

@@ -16,10 +16,12 @@ use Rattle.machine.specs.State.{World, world, start}
 use Rattle.machine.specs.Interrupt.{Step}
 use Rattle.machine.specs.Run.{Move, moves}
 
+-- an M line of a sheet: an address and its word
 pub record MLine : Type 0 where
   pub address : ℕ
   pub word : ℕ
 
+-- as it stands on the sheet
 abbrev pub M : ℕ → ℕ → MLine
 M a w = record { address = a; word = w }
 
@@ -43,9 +45,11 @@ pub record StepLine : Type 0 where
   pub sr : ℕ
   pub sp : ℕ
 
+-- a step line in the order of its fields
 abbrev pub line : Outcome → ℕ → ℕ → ℕ → ℕ → StepLine
 line k c p s q = record { kind = k; clock = c; pc = p; sr = s; sp = q }
 
+-- the line of a step
 abbrev lineOf : Move → StepLine
 lineOf v =
     line (v .after .outcome) (v .after .machine .time .clock) (pc (v .after .machine .registers))
@@ -73,5 +77,6 @@ stepCases =
     ∷ line Back 24 0x8006 8 0 ∷ line Ran 26 0x4600 8 0 ∷ line Halted 27 0x4602 8 0 ∷ [])
     ∷ []
 
+-- all starred cases
 abbrev pub starredCases : List {1} Case
 starredCases = stepCases ++ wordCases ++ sumCases ++ accessCases

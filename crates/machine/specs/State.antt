@@ -23,9 +23,11 @@ pub record World : Type 0 where
   pub machine : Machine
   pub memory : List ℕ
 
+-- a machine with its memory
 abbrev pub world : Machine → List ℕ → World
 world m mem = record { machine = m; memory = mem }
 
+-- a visit is held
 abbrev pub isHeld : Visit → Bool
 isHeld Free = false
 isHeld (Held previous age) = true

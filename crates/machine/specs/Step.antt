@@ -35,6 +35,7 @@ alarmed rs (Store s d) t = t
 alarmed rs (Compute o s d) t = t
 alarmed rs (Not d) t = t
 
+-- the instruction is HLT
 abbrev pub isHlt : Instruction → Bool
 isHlt Hlt = true
 isHlt (In d) = false
@@ -74,6 +75,7 @@ module _ (L : Layout) (stamps : List ℕ) where
       if next .halted then gives next bytes Halted
       else interrupted L stamps (inside L (pc (m .registers))) Ran next bytes (due next)
 
+  -- RETI to a held visit, its cycles passed
   abbrev returning : Machine → List ℕ → Time → ℕ → ℕ → Step
   returning m mem t previous age = resumed L stamps t previous age (m .saved) mem (t .slot)
 
@@ -83,6 +85,7 @@ module _ (L : Layout) (stamps : List ℕ) where
   performed m mem (Held previous age) i =
       if isReti i then returning m mem (pass stamps (cyclesOf i) (m .time)) previous age else ordinary m mem i
 
+  -- a cause resets, an instruction acts
   unfoldable pub stepJudged : Machine → List ℕ → Judged → Step
   stepJudged m mem (faulty c) = reset L stamps c m mem
   stepJudged m mem (acts i) = performed m mem (m .visit) i

@@ -21,6 +21,7 @@ use Rattle.secrecy.specs.Sighting.{Sighting, sightings}
 use Rattle.secrecy.specs.Visit.{away, visits}
 use Rattle.secrecy.specs.Secrecy.{startWorld, Premise}
 
+-- code at 0040, data at 0050, the service routine at 0020
 abbrev pub exampleLayout : Layout
 exampleLayout = record { code = record { start = 0x0040; end = 0x004A }; «data» = record { start = 0x0050; end = 0x0054 }; service = 0x0020 }
 
@@ -39,6 +40,7 @@ leavingLines = M 0x0044 0x4036 ∷ M 0x0046 0x0030 ∷ M 0x0048 0x4600 ∷ []
 unfoldable pub memoryA : List ℕ
 memoryA = loaded (replicate 65536 0) (outsideLines ++ leavingLines ++ (M 0x0040 0x4303 ∷ M 0x0042 0x4303 ∷ []))
 
+-- the other
 unfoldable pub memoryB : List ℕ
 memoryB = loaded (replicate 65536 0) (outsideLines ++ leavingLines ++ (M 0x0040 0x4037 ∷ M 0x0042 0x0000 ∷ []))
 
@@ -51,6 +53,7 @@ abbrev pub linesBefore : List StepLine
 linesBefore =
     line Ran 2 0x0014 8 0 ∷ line Ran 4 0x0040 8 0 ∷ line Padded 17 0x0020 0 0 ∷ line Ran 18 0x0022 0 0 ∷ line Ran 19 0x0024 0 0 ∷ []
 
+-- from where both are in step again
 abbrev pub linesLater : List StepLine
 linesLater =
     line Ran 27 0x0048 8 0 ∷ line Ran 29 0x0030 8 0 ∷ line Ran 30 0x0032 8 0 ∷ line Ran 31 0x0034 8 0 ∷ line Ran 32 0x0036 8 0

@@ -29,6 +29,7 @@ pub record View : Type 0 where
 unfoldable pub outsideBytes : Layout → List ℕ → ℕ → ℕ
 outsideBytes L mem a = if outside L a then byteAt mem a else 0
 
+-- the view of a world
 unfoldable pub viewOf : Layout → World → View
 viewOf L w =
     record {
@@ -39,6 +40,7 @@ viewOf L w =
       alarm = w .machine .time .alarm;
     }
 
+-- one sighting
 pub data Sighting : Type 0 where
   -- what was before the step, what is after it, and its outcome
   seen : View → View → Outcome → Sighting

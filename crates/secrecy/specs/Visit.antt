@@ -28,10 +28,12 @@ pub record VisitEnd : Type 0 where
   pub way : Way
   pub registers : List ℕ
 
+-- whether a visit has ended, and how
 pub data Fate : Type 0 where
   unended : Fate
   ended : VisitEnd → Fate
 
+-- a visit: the clock at its start, and its fate
 pub record Visit : Type 0 where
   pub start : ℕ
   pub fate : Fate
@@ -46,6 +48,7 @@ abbrev pub judgedCycles : Judged → ℕ
 judgedCycles (faulty c) = 4
 judgedCycles (acts i) = cyclesOf i
 
+-- the own cycles of a step
 abbrev pub ownCycles : Layout → Move → ℕ
 ownCycles L v =
     let m = v .before .machine in
@@ -68,6 +71,7 @@ closed away clock n way registers = []
 closed (visiting start own) clock n way registers =
     record { start = start; fate = ended (record { clock = clock; own = own + n; way = way; registers = registers }) } ∷ []
 
+-- a visit that goes on, with n own cycles more
 abbrev pub longer : Phase → ℕ → Phase
 longer away n = away
 longer (visiting start own) n = visiting start (own + n)
