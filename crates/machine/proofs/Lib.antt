@@ -20,3 +20,5 @@ pub mod ConfinedLaws
 pub mod JudgedAlike
 pub mod ServedAlike
 pub mod LocalLaws
+pub mod TimetableLaws
+pub mod PlaceLaws

@@ -9,5 +9,6 @@ pub mod Interrupt
 pub mod Step
 pub mod Run
 pub mod Calls
+pub mod Place
 pub mod Laws
 pub mod Starred

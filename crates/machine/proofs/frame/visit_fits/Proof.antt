@@ -1,0 +1,89 @@
+use mathlib.Core.Path.{refl}
+use borrow.Author.Tests.{le-leb, lt-leb}
+use borrow.Author.Needs.{needs}
+use Rattle.base.proofs.Tests.{and-stop, and-then, and-last}
+use Rattle.machine.specs.Registers.{register}
+use Rattle.machine.proofs.frame.visit_fits.Statement.{statement}
+use Rattle.machine.proofs.frame.visit_fits.Tie as tie
+
+enum-told : tie.Need-enum-told
+enum-told c = search needs
+
+enum-known-visit : tie.Need-enum-known-visit
+enum-known-visit c = search needs
+
+registers-fit-requires : tie.Need-registers-fit-requires
+registers-fit-requires c κs = search needs
+
+array-read-gie-is-set : tie.Need-array-read-gie-is-set
+array-read-gie-is-set c = search needs
+
+gie-is-set-requires : tie.Need-gie-is-set-requires
+gie-is-set-requires c κs = search needs
+
+inside-requires : tie.Need-inside-requires
+inside-requires c κs = search needs
+
+is-even-requires : tie.Need-is-even-requires
+is-even-requires c κs = search needs
+
+returns : tie.Need-returns
+returns c = search needs
+
+returns-2 : tie.Need-returns-2
+unfolding register
+returns-2 c =
+    rw (c .before .before .before .before .before .before .before .before .before .visit .given .1)
+    (and-then _ refl (le-leb _ _ (c .before .before .before .before .before .before .before .if1 .taken))
+    (and-then _ (c .before .before .before .before .before .before .registers-fit .ensures)
+    (c .before .before .before .before .before .if2 .taken)
+    (and-then _ (c .before .before .before .before .gie-is-set .ensures) (c .before .before .before .if3 .taken)
+    (and-then _ (c .before .before .inside .ensures) (c .before .if4 .taken)
+    (and-last (c .is-even .ensures))))))
+
+returns-3 : tie.Need-returns-3
+unfolding register
+returns-3 c =
+    rw (c .before .before .before .before .before .before .before .before .visit .given .1)
+    (and-then _ refl (le-leb _ _ (c .before .before .before .before .before .before .if1 .taken))
+    (and-then _ (c .before .before .before .before .before .registers-fit .ensures)
+    (c .before .before .before .before .if2 .taken)
+    (and-then _ (c .before .before .before .gie-is-set .ensures) (c .before .before .if3 .taken)
+    (and-stop _ (c .before .inside .ensures) (c .if4 .left)))))
+
+returns-4 : tie.Need-returns-4
+unfolding register
+returns-4 c =
+    rw (c .before .before .before .before .before .before .visit .given .1)
+    (and-then _ refl (le-leb _ _ (c .before .before .before .before .if1 .taken))
+    (and-then _ (c .before .before .before .registers-fit .ensures) (c .before .before .if2 .taken)
+    (and-stop _ (c .before .gie-is-set .ensures) (c .if3 .left))))
+
+returns-5 : tie.Need-returns-5
+unfolding register
+returns-5 c =
+    rw (c .before .before .before .before .visit .given .1)
+    (and-then _ refl (le-leb _ _ (c .before .before .if1 .taken))
+    (and-stop _ (c .before .registers-fit .ensures) (c .if2 .left)))
+
+returns-6 : tie.Need-returns-6
+unfolding register
+returns-6 c = rw (c .before .before .visit .given .1) (and-stop _ refl (lt-leb _ _ (c .if1 .left)))
+
+pub visit-fits-spec : {M : Type 1} → statement M
+visit-fits-spec =
+    tie.close
+    (tie.spec
+    enum-told
+    enum-known-visit
+    registers-fit-requires
+    array-read-gie-is-set
+    gie-is-set-requires
+    inside-requires
+    is-even-requires
+    returns
+    returns-2
+    returns-3
+    returns-4
+    returns-5
+    returns-6)

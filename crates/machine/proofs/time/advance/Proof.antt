@@ -1,0 +1,52 @@
+use Prim.Native.Nat.{_-_}
+use lib.ListN.{length}
+use borrow.Author.Needs.{needs}
+use Rattle.machine.specs.Place.{Passed}
+use Rattle.machine.proofs.PlaceLaws.{passed-next, place-here, place-end}
+use Rattle.machine.proofs.time.advance.Statement.{statement}
+use Rattle.machine.proofs.time.advance.Tie as tie
+
+abbrev Inv-loop : tie.InvT-loop
+Inv-loop stamps place clock i₀ i = Passed stamps clock i
+
+abbrev μ-loop : tie.MeasureT-loop
+μ-loop stamps place clock i₀ i = length stamps - i
+
+loop-holds : tie.Need-loop-holds Inv-loop μ-loop
+loop-holds c = c .pre .1
+
+mul-if1 : tie.Need-mul-if1 Inv-loop μ-loop
+mul-if1 c = search needs
+
+shared-slice-read-if1 : tie.Need-shared-slice-read-if1 Inv-loop μ-loop
+shared-slice-read-if1 c = search needs
+
+returns : tie.Need-returns Inv-loop μ-loop
+returns c = place-here _ _ _ (c .before .before .before .loop .inv) (c .before .before .before .before .pre .0) (c .if1 .taken)
+
+add-i : tie.Need-add-i Inv-loop μ-loop
+add-i c = search needs
+
+loop-less : tie.Need-loop-less Inv-loop μ-loop
+loop-less c = search needs
+
+loop-again : tie.Need-loop-again Inv-loop μ-loop
+loop-again c = passed-next _ _ _ (c .before .before .before .loop .inv) (c .before .before .loop-test .taken) (c .if1 .left)
+
+returns-2 : tie.Need-returns-2 Inv-loop μ-loop
+returns-2 c = place-end _ _ _ (c .before .loop .inv) (c .loop-test .left)
+
+pub advance-spec : {M : Type 1} → statement M
+advance-spec =
+    tie.close
+    (tie.spec
+    Inv-loop
+    μ-loop
+    loop-holds
+    mul-if1
+    shared-slice-read-if1
+    returns
+    add-i
+    loop-less
+    loop-again
+    returns-2)

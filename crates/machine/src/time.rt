@@ -1,0 +1,160 @@
+// The clock, the requests and the pending slot that takes them.
+ghost use mathlib.Core.Path.{_≡_};
+ghost use mathlib.Core.Bool.{true};
+ghost use Prim.Native.Nat.{_≤_, _^_};
+ghost use Rattle.machine.specs.Time.{happens, happening, earlier, filledBy, alarmLeft, emptied, setAlarm, deviceWord, pass};
+ghost use Rattle.machine.specs.Calls.{timetable};
+ghost use Rattle.machine.specs.Place.{stampAt, Passed, RightPlace};
+use crate::state::Stamp;
+use crate::state::Time;
+
+// A request with this stamp happens while the clock passes from a to b.
+fn happens(a: u64, b: u64, stamp: u64) -> bool
+    ensures { λ r. ⌜ r ≡ happens a b stamp ⌝ }
+{
+    a < stamp && stamp <= b
+}
+
+// The stamp, if it happens while the clock passes from a to b.
+fn happening(a: u64, b: u64, stamp: Stamp) -> Stamp
+    ensures { λ r. ⌜ r ≡ happening a b stamp ⌝ }
+{
+    match stamp {
+        Stamp::Never => Stamp::Never,
+        Stamp::At(s) => {
+            if happens(a, b, s) {
+                return Stamp::At(s);
+            }
+            Stamp::Never
+        }
+    }
+}
+
+// The earlier of two.
+fn earlier(one: Stamp, other: Stamp) -> Stamp
+    ensures { λ r. ⌜ r ≡ earlier one other ⌝ }
+{
+    match one {
+        Stamp::Never => other,
+        Stamp::At(s) => match other {
+            Stamp::Never => Stamp::At(s),
+            Stamp::At(t) => {
+                if s <= t {
+                    return Stamp::At(s);
+                }
+                Stamp::At(t)
+            }
+        },
+    }
+}
+
+// The slot, if empty, takes the request.
+fn filled_by(slot: Stamp, request: Stamp) -> Stamp
+    ensures { λ r. ⌜ r ≡ filledBy slot request ⌝ }
+{
+    match slot {
+        Stamp::Never => request,
+        Stamp::At(s) => Stamp::At(s),
+    }
+}
+
+// The alarm clears when it happens.
+fn alarm_left(a: u64, b: u64, alarm: Stamp) -> Stamp
+    ensures { λ r. ⌜ r ≡ alarmLeft a b alarm ⌝ }
+{
+    match alarm {
+        Stamp::Never => Stamp::Never,
+        Stamp::At(s) => {
+            if happens(a, b, s) {
+                return Stamp::Never;
+            }
+            Stamp::At(s)
+        }
+    }
+}
+
+// The stamp at the place, if there is one.
+fn stamp_at(stamps: &[u64], place: usize) -> Stamp
+    ensures { λ r. ⌜ r ≡ stampAt (now (stamps .entry)) place ⌝ }
+{
+    if place < stamps.len() {
+        return Stamp::At(stamps[place]);
+    }
+    Stamp::Never
+}
+
+// The clock's place in the timetable, from one that the clock has passed: the stamps before it are not above the clock, the others are.
+pub fn advance(stamps: &[u64], place: usize, clock: u64) -> usize
+    requires { ⌜ (timetable (now stamps) ≡ true) × Passed (now stamps) clock place ⌝ }
+    ensures { λ r. ⌜ RightPlace (now (stamps .entry)) clock r ⌝ }
+{
+    let mut i = place;
+    while i < stamps.len() {
+        if clock < stamps[i] {
+            return i;
+        }
+        i += 1;
+    }
+    i
+}
+
+// The clock's place in the timetable.
+pub fn first_place(stamps: &[u64], clock: u64) -> usize
+    requires { ⌜ timetable (now stamps) ≡ true ⌝ }
+    ensures { λ r. ⌜ RightPlace (now (stamps .entry)) clock r ⌝ }
+{
+    advance(stamps, 0, clock)
+}
+
+// n cycles pass, with the clock's place: the only thing that moves the clock, fills the slot and rings the alarm.
+pub fn pass(t: Time, stamps: &[u64], place: usize, n: u64) -> Time
+    requires { ⌜ (t .clock ≤ 2 ^ 63) × (n ≤ 2 ^ 62) ⌝ }
+    requires { ⌜ (timetable (now stamps) ≡ true) × RightPlace (now stamps) (t .clock) place ⌝ }
+    ensures { λ r. ⌜ r ≡ pass (now (stamps .entry)) n t ⌝ }
+{
+    let a = t.clock;
+    let b = a + n;
+    let slot = t.slot;
+    let alarm = t.alarm;
+    let next = stamp_at(stamps, place);
+    let request = earlier(happening(a, b, next), happening(a, b, alarm));
+    Time {
+        clock: b,
+        slot: filled_by(slot, request),
+        alarm: alarm_left(a, b, alarm),
+    }
+}
+
+// The slot empties.
+pub fn emptied(t: Time) -> Time
+    ensures { λ r. ⌜ r ≡ emptied t ⌝ }
+{
+    Time {
+        slot: Stamp::Never,
+        ..t
+    }
+}
+
+// OUT of w: the alarm is set to clock + w, replacing any; 0 clears it.
+pub fn set_alarm(t: Time, w: u16) -> Time
+    requires { ⌜ t .clock ≤ 2 ^ 63 ⌝ }
+    ensures { λ r. ⌜ r ≡ setAlarm w t ⌝ }
+{
+    if w == 0 {
+        return Time {
+            alarm: Stamp::Never,
+            ..t
+        };
+    }
+    Time {
+        alarm: Stamp::At(t.clock + w as u64),
+        ..t
+    }
+}
+
+// What IN gives: the clock's low 16 bits.
+pub fn device_word(t: Time) -> u16
+    ensures { λ r. ⌜ r ≡ deviceWord t ⌝ }
+{
+    (t.clock % 65536) as u16
+}
