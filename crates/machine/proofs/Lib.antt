@@ -3,6 +3,7 @@ pub mod InstructionLaws
 pub mod ActLaws
 pub mod JudgeLaws
 pub mod CauseLaws
+pub mod SideLaws
 pub mod PassLaws
 pub mod MemoryLaws
 pub mod StepLaws

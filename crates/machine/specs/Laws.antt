@@ -8,14 +8,16 @@ use lib.Dec.{leb, ltb}
 use lib.ListN.{length}
 use Rattle.base.specs.declared.refusal.Refusal.the-variants.{Distance, Clock}
 use Rattle.base.specs.Test.{all}
-use Rattle.base.specs.Word.{sum16}
+use Rattle.base.specs.Word.{even, sum16}
 use Rattle.isa.specs.declared.instruction.Instruction.{Instruction}
 use Rattle.isa.specs.declared.instruction.Instruction.the-variants.{Reti}
 use Rattle.isa.specs.Cycles.{cyclesOf}
 use Rattle.isa.specs.Words.{begun, twoWords}
 use Rattle.layout.specs.declared.sections.Layout.{Layout}
 use Rattle.layout.specs.declared.access.Right.the-variants.{Execute as execute}
-use Rattle.layout.specs.Sections.{inside, outside, sameSide}
+use Rattle.layout.specs.declared.sections.Section.{Section}
+use Rattle.layout.specs.declared.sections.Section.the-variants.{Outside, Data}
+use Rattle.layout.specs.Sections.{section, inside, outside, sameSide}
 use Rattle.layout.specs.Rules.{accepted}
 use Rattle.layout.specs.Access.{may}
 use Rattle.alu.specs.Status.{gie}
@@ -34,7 +36,7 @@ use Rattle.machine.specs.Memory.{byteAt, wordAt}
 use Rattle.machine.specs.Registers.{pc, sr}
 use Rattle.machine.specs.Time.{pass, emptied}
 use Rattle.machine.specs.State.{World, isHeld, resetAddress, start, framed}
-use Rattle.machine.specs.Judge.{faulty, acts, privileged, judgeAct, judge}
+use Rattle.machine.specs.Judge.{faulty, acts, reads, writes, privileged, isReti, judgeAct, judge}
 use Rattle.machine.specs.Act.{registersAfter, memoryAfter}
 use Rattle.machine.specs.Interrupt.{Step, gives, padded}
 use Rattle.machine.specs.Step.{executed, step}
@@ -122,6 +124,20 @@ WritesOwnSide =
     (L : Layout) (stamps : List ℕ) (m : Machine) (mem : List ℕ) (a : ℕ) → accepted L ≡ true
     → (inside L (pc (m .registers)) ≡ true → outside L a ≡ true → byteAt (step L stamps m mem .memory) a ≡ byteAt mem a)
     × (inside L (pc (m .registers)) ≡ false → outside L a ≡ false → byteAt (step L stamps m mem .memory) a ≡ byteAt mem a)
+
+-- every word of these addresses lies in the section
+abbrev pub AllIn : Layout → Section → List ℕ → Type 0
+AllIn L s [] = Unit {0}
+AllIn L s (a ∷ addresses) = (section L (even a) ≡ s) × AllIn L s addresses
+
+-- an instruction that acts reads and writes data if it is inside, and outside if it is not, unless it returns to a held visit, which
+-- touches no memory
+unfoldable pub TouchesOwnSide : Type 0
+TouchesOwnSide =
+    (L : Layout) (held : Bool) (rs mem : List ℕ) (previous : ℕ) (i : Instruction) → judge L held rs mem previous ≡ acts i
+    → all (held ∷ isReti i ∷ []) ≡ false
+    → (inside L (pc rs) ≡ true → AllIn L Data (reads rs i) × AllIn L Data (writes rs i))
+    × (inside L (pc rs) ≡ false → AllIn L Outside (reads rs i) × AllIn L Outside (writes rs i))
 
 -- ---- the twelve-cycle law
 

@@ -1,7 +1,7 @@
 // What is claimed of the machine: each claim is the contract of a function with nothing to do.
 ghost use Rattle.base.specs.Case.{Settled};
 ghost use Rattle.machine.specs.Starred.{starredCases};
-ghost use Rattle.machine.specs.Laws.{PassAdds, StepCycles, HaltedStays, FramedAtStart, FrameKept, LengthKept, OnlyDistanceOrClock, GieKeptInside, QuietAtStart, QuietKept, AgeAtMostFive, WritesOwnSide, TwelveInside, TwelveInReturn, PaddedByStamp, BarredUnread, NoReentry, SecondElsewhereUnread, PrivilegedInside, ChainsWhateverGie, ResetAfterStore, RunCounts, RunEnds, RunAdds, OutsideLocal, InsideConfined};
+ghost use Rattle.machine.specs.Laws.{PassAdds, StepCycles, HaltedStays, FramedAtStart, FrameKept, LengthKept, OnlyDistanceOrClock, GieKeptInside, QuietAtStart, QuietKept, AgeAtMostFive, WritesOwnSide, TouchesOwnSide, TwelveInside, TwelveInReturn, PaddedByStamp, BarredUnread, NoReentry, SecondElsewhereUnread, PrivilegedInside, ChainsWhateverGie, ResetAfterStore, RunCounts, RunEnds, RunAdds, OutsideLocal, InsideConfined};
 
 // The starred cases of document 01, one list, and its sheet.
 pub fn starred()
@@ -66,6 +66,11 @@ pub fn age_at_most_five()
 // A step inside writes only code and data, a step elsewhere only outside.
 pub fn writes_own_side()
     ensures { λ _. ⌜ WritesOwnSide ⌝ }
+{}
+
+// An instruction that acts reads and writes data if it is inside, and outside if it is not.
+pub fn touches_own_side()
+    ensures { λ _. ⌜ TouchesOwnSide ⌝ }
 {}
 
 // A request that fills the slot during an instruction inside reaches service 12 cycles after its stamp.
