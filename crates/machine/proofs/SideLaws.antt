@@ -24,10 +24,13 @@ all-in L from right s each (a ∷ addresses) e =
 pub touches-own-side : TouchesOwnSide
 unfolding TouchesOwnSide
 touches-own-side L held rs mem previous i e n =
-    let t = acts-touches L held rs mem previous i e n in
-    ((λ h.
-    (all-in L _ _ _ (λ a m. inside-touches-data L _ (even a) _ h refl m) _ (t .0),
-    all-in L _ _ _ (λ a m. inside-touches-data L _ (even a) _ h refl m) _ (t .1))),
-    (λ h.
-    (all-in L _ _ _ (λ a m. elsewhere-touches-outside L _ (even a) _ h refl m) _ (t .0),
-    all-in L _ _ _ (λ a m. elsewhere-touches-outside L _ (even a) _ h refl m) _ (t .1))))
+    let t = acts-touches L held rs mem previous i e n in (
+      (λ h. (
+        all-in L _ _ _ (λ a m. inside-touches-data L _ (even a) _ h refl m) _ (t .0),
+        all-in L _ _ _ (λ a m. inside-touches-data L _ (even a) _ h refl m) _ (t .1),
+      )),
+      (λ h. (
+        all-in L _ _ _ (λ a m. elsewhere-touches-outside L _ (even a) _ h refl m) _ (t .0),
+        all-in L _ _ _ (λ a m. elsewhere-touches-outside L _ (even a) _ h refl m) _ (t .1),
+      )),
+    )
