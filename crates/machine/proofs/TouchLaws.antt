@@ -1,5 +1,5 @@
 -- A step keeps memory's length, writes its own side only, and reads the reset vector after its writes. Assumes nothing.
-use mathlib.Core.Path.{_≡_, refl, sym, _∙_}
+use mathlib.Core.Path.{_≡_, refl, sym, _∙_, ap, subst}
 use mathlib.Core.Logic.{_≢_}
 use mathlib.Core.Bool.{true, false, true≢false}
 use mathlib.Core.List.{List, []}
@@ -17,14 +17,17 @@ use Rattle.layout.proofs.SectionLaws.{section-outside, data-not-outside}
 use Rattle.layout.proofs.AccessLaws.{elsewhere-touches-outside, inside-touches-data}
 use Rattle.machine.specs.declared.state.Machine.{Machine}
 use Rattle.machine.specs.declared.answer.Cause.{Cause}
+use Rattle.machine.specs.declared.answer.Cause.the-variants.{Write as barred}
+use Rattle.machine.specs.declared.answer.Outcome.{Outcome}
 use Rattle.machine.specs.declared.answer.Outcome.the-variants.{Reset}
 use Rattle.machine.specs.Memory.{byteAt, putWord}
 use Rattle.machine.specs.Registers.{register, pc, cleared}
-use Rattle.machine.specs.State.{resetAddress}
+use Rattle.machine.specs.Outcome.{isReset}
+use Rattle.machine.specs.Time.{emptied}
 use Rattle.machine.specs.Judge.{acts}
 use Rattle.machine.specs.Interrupt.{Step, reset, plain, padded, chained}
 use Rattle.machine.specs.Step.{step}
-use Rattle.machine.specs.Laws.{LengthKept, WritesOwnSide, ResetAfterStore}
+use Rattle.machine.specs.Laws.{LengthKept, WritesOwnSide, Fallen, ResetAfterStore}
 use Rattle.machine.proofs.MemoryLaws.{put-length, even-side, put-side}
 use Rattle.machine.proofs.ActLaws.{kept-or-stored}
 use Rattle.machine.proofs.JudgeLaws.{each-may, acts-writes}
@@ -100,30 +103,38 @@ writes-own-side L stamps m mem a v =
 
 -- ---- reset
 
--- after a reset pc is the reset vector's word in the memory that it leaves
-abbrev FromVector : Step → Type 0
-FromVector s = (c : Cause) → s .outcome ≡ Reset c → pc (s .machine .registers) ≡ resetAddress (s .memory)
+-- a step whose outcome is a reset is the reset of some machine and memory
+abbrev FromReset : Layout → List ℕ → Step → Type 0
+FromReset L stamps s =
+    (c : Cause) → s .outcome ≡ Reset c → (d : Cause) × ((x : Machine) × ((bytes : List ℕ) × (s ≡ reset L stamps d x bytes)))
+
+-- an outcome that is no reset
+other : {A : Type 0} {o : Outcome} {c : Cause} → isReset o ≡ false → o ≡ Reset c → A
+other h e = absurd (true≢false (sym (ap isReset e) ∙ h))
 
 module _ (L : Layout) (stamps : List ℕ) where
-  reset-vector : (c : Cause) (m : Machine) (mem : List ℕ) → FromVector (reset L stamps c m mem)
-  unfolding reset cleared register
-  reset-vector c m mem d e = refl
-
-  plain-vector : (m : Machine) (mem : List ℕ) → FromVector (plain L stamps m mem)
+  plain-reset : (m : Machine) (mem : List ℕ) → FromReset L stamps (plain L stamps m mem)
   unfolding plain
-  plain-vector m mem = choose FromVector _ (λ e c f. cc) (λ e. reset-vector _ m mem)
+  plain-reset m mem = choose (FromReset L stamps) _ (λ e c f. other refl f) (λ e c f. (barred, (m, (mem, refl))))
 
-  way-vector : (m : Machine) (mem : List ℕ) (s : Step) → Way L stamps m mem s → FromVector s
+  way-reset : (m : Machine) (mem : List ℕ) (s : Step) → Way L stamps m mem s → FromReset L stamps s
   unfolding padded chained
-  way-vector m mem s (resets d e) c f = reset-vector d m mem c f
-  way-vector m mem s (halts i e h) c f = cc
-  way-vector m mem s (runs i r d) c f = cc
-  way-vector m mem s (serves i u r o d) c f = plain-vector _ _ c f
-  way-vector m mem s (pads i u r o d) c f = cc
-  way-vector m mem s (chains p a u r d) c f = cc
-  way-vector m mem s (returns p a r n d) c f = cc
-  way-vector m mem s (padsAgain p a u r n d) c f = cc
+  way-reset m mem s (resets d e) c f = (d, (m, (mem, refl)))
+  way-reset m mem s (halts i e h) c f = other refl f
+  way-reset m mem s (runs i r d) c f = other refl f
+  way-reset m mem s (serves i u r o d) c f = plain-reset _ _ c f
+  way-reset m mem s (pads i u r o d) c f = other refl f
+  way-reset m mem s (chains p a u r d) c f = other refl f
+  way-reset m mem s (returns p a r n d) c f = other refl f
+  way-reset m mem s (padsAgain p a u r n d) c f = other refl f
+
+  -- what a reset leaves
+  reset-leaves : (d : Cause) (x : Machine) (bytes : List ℕ) → Fallen (reset L stamps d x bytes)
+  unfolding reset cleared register emptied
+  reset-leaves d x bytes = record { address = refl; slot = refl; visit = refl }
 
 pub reset-after-store : ResetAfterStore
 unfolding ResetAfterStore
-reset-after-store L stamps m mem = step-case L stamps m mem FromVector (λ h c f. cc) (way-vector L stamps m mem)
+reset-after-store L stamps m mem c e =
+    let r = step-case L stamps m mem (FromReset L stamps) (λ h c f. other refl f) (way-reset L stamps m mem) c e in
+    subst Fallen (sym (r .1 .1 .1)) (reset-leaves L stamps (r .0) (r .1 .0) (r .1 .1 .0))

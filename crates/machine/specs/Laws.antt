@@ -4,7 +4,6 @@ use mathlib.Core.Bool.{Bool, true, false}
 use mathlib.Core.Logic.{_⊎_}
 use mathlib.Core.List.{List, [], _∷_}
 use Prim.Native.Nat.{ℕ, _+_, _-_, _≤_, _<_}
-use lib.Dec.{leb, ltb}
 use lib.ListN.{length}
 use Rattle.base.specs.declared.refusal.Refusal.the-variants.{Distance, Clock}
 use Rattle.base.specs.Test.{all}
@@ -21,10 +20,8 @@ use Rattle.layout.specs.Sections.{section, inside, outside, sameSide}
 use Rattle.layout.specs.Rules.{accepted}
 use Rattle.layout.specs.Access.{may}
 use Rattle.alu.specs.Status.{gie}
-use Rattle.machine.specs.declared.state.Stamp.{Stamp}
 use Rattle.machine.specs.declared.state.Stamp.the-variants.{Never, At}
 use Rattle.machine.specs.declared.state.Time.{Time}
-use Rattle.machine.specs.declared.state.Visit.{Visit}
 use Rattle.machine.specs.declared.state.Visit.the-variants.{Free, Held}
 use Rattle.machine.specs.declared.state.Machine.{Machine}
 use Rattle.machine.specs.declared.answer.Cause.{Cause}
@@ -41,7 +38,7 @@ use Rattle.machine.specs.Act.{registersAfter, memoryAfter}
 use Rattle.machine.specs.Interrupt.{Step, gives, padded}
 use Rattle.machine.specs.Step.{executed, step}
 use Rattle.machine.specs.Run.{lastClock, Stop, worldAfter, stepOf, run, moves}
-use Rattle.machine.specs.Calls.{wholeMemory, timetable, Verdict, taken, refused, verdict, runTests}
+use Rattle.machine.specs.Calls.{wholeMemory, timetable, taken, refused, verdict, runTests}
 
 -- ---- time
 
@@ -204,11 +201,17 @@ ChainsWhateverGie =
     → pass stamps (cyclesOf Reti) (m .time) .slot ≡ At s
     → step L stamps m mem .outcome ≡ Chained
 
--- after a reset pc is the reset vector's word in the memory that the step leaves
+-- what a reset leaves: pc is the reset vector's word in the memory that the step leaves, the slot is empty, no visit is held
+pub record Fallen (s : Step) : Type 0 where
+  pub address : pc (s .machine .registers) ≡ resetAddress (s .memory)
+  pub slot : s .machine .time .slot ≡ Never
+  pub visit : s .machine .visit ≡ Free
+
+-- so of every step that resets
 unfoldable pub ResetAfterStore : Type 0
 ResetAfterStore =
     (L : Layout) (stamps : List ℕ) (m : Machine) (mem : List ℕ) (c : Cause) → step L stamps m mem .outcome ≡ Reset c
-    → pc (step L stamps m mem .machine .registers) ≡ resetAddress (step L stamps m mem .memory)
+    → Fallen (step L stamps m mem)
 
 -- ---- run
 

@@ -113,7 +113,7 @@ pub fn chains_whatever_gie()
     ensures { λ _. ⌜ ChainsWhateverGie ⌝ }
 {}
 
-// After a reset pc is the vector's word in the memory that the step leaves.
+// A reset leaves pc at the vector's word in the memory that the step leaves, an empty slot and no held visit.
 pub fn reset_after_store()
     ensures { λ _. ⌜ ResetAfterStore ⌝ }
 {}
