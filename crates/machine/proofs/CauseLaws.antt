@@ -46,4 +46,4 @@ second-elsewhere-unread L held rs mem previous h n t o =
 
 pub privileged-inside : PrivilegedInside
 unfolding PrivilegedInside judgeAct
-privileged-inside L held rs mem i h p = if-true _ _ _ (every _ (h, (p, tt)))
+privileged-inside L held rs i h p = if-true _ _ _ (every _ (h, (p, tt)))

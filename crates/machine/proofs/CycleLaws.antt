@@ -1,12 +1,14 @@
 -- A step of a running machine adds 1 to 23 cycles, and a halted machine stays as it is. Assumes nothing.
-use mathlib.Core.Path.{_≡_}
-use mathlib.Core.Bool.{true}
+use mathlib.Core.Path.{_≡_, ap}
+use mathlib.Core.Bool.{true, false}
 use mathlib.Core.List.{List}
 use Prim.Native.Nat.{ℕ, _+_, _≤_}
 use native.Mathlib.Omega.{arith}
 use Rattle.base.proofs.Tests.{if-true, choose}
 use Rattle.isa.specs.declared.instruction.Instruction.{Instruction}
 use Rattle.layout.specs.declared.sections.Layout.{Layout}
+use Rattle.machine.specs.declared.state.Visit.{Visit}
+use Rattle.machine.specs.declared.state.Visit.the-variants.{Free, Held}
 use Rattle.machine.specs.declared.state.Machine.{Machine}
 use Rattle.machine.specs.declared.answer.Cause.{Cause}
 use Rattle.machine.specs.Time.{pass, emptied}
@@ -24,11 +26,11 @@ pub record Adds (least most c : ℕ) (s : Step) : Type 0 where
   pub at-most : s .machine .time .clock ≤ c + most
 
 -- so do a step's last cycles, from the clock b, after those that come before them
-after : {least most b c : ℕ} {s : Step} → Adds least most b s → c + 1 ≤ b + least → b + most ≤ c + 23 → Adds 1 23 c s
+after : {least most total b c : ℕ} {s : Step} → Adds least most b s → c + 1 ≤ b + least → b + most ≤ c + total → Adds 1 total c s
 after h l g = omega arith
 
 module _ (L : Layout) (stamps : List ℕ) where
-  pub reset-adds : (c : Cause) (m : Machine) (mem : List ℕ) → Adds 4 4 (m .time .clock) (reset L stamps c m mem)
+  pub reset-adds : (c : Cause) (m : Machine) (mem : List ℕ) → Adds 4 4 (m .time .clock) (reset stamps c m mem)
   unfolding reset emptied pass
   reset-adds c m mem = omega arith
 
@@ -40,26 +42,41 @@ module _ (L : Layout) (stamps : List ℕ) where
   unfolding padded emptied pass ageOf
   padded-adds s m mem = omega arith
 
-  module _ (m : Machine) (mem : List ℕ) (f : framed L m ≡ true) where
+  module _ (m : Machine) (mem : List ℕ) where
     next-range : (i : Instruction)
         → (m .time .clock + 1 ≤ next L stamps m mem i .time .clock) × (next L stamps m mem i .time .clock ≤ m .time .clock + 5)
     next-range i = let n = cycles-range i in omega (arith, next-clock L stamps m mem i)
 
-    way-adds : (s : Step) → Way L stamps m mem s → Adds 1 23 (m .time .clock) s
-    unfolding chained back emptied pass
-    way-adds s (resets c e) = after (reset-adds c m mem) (omega arith) (omega arith)
-    way-adds s (halts i e h) = let k = next-range i in omega arith
-    way-adds s (runs i r d) = let k = next-range i in omega arith
-    way-adds s (serves i u r o d) = let k = next-range i in after (plain-adds _ _) (omega arith) (omega arith)
-    way-adds s (pads i u r o d) = let k = next-range i in after (padded-adds u _ _) (omega arith) (omega arith)
-    way-adds s (chains p a u r d) = omega arith
-    way-adds s (returns p a r n d) = let k = held-framed L m p a f (r .holding) .age-bound in omega arith
-    way-adds s (padsAgain p a u r n d) =
-        let k = held-framed L m p a f (r .holding) .age-bound in after (padded-adds u _ mem) (omega arith) (omega arith)
+    -- by the most that a held age can be
+    module _ (most : ℕ) (f : (p a : ℕ) → m .visit ≡ Held p a → a ≤ most) where
+      way-adds : (s : Step) → Way L stamps m mem s → Adds 1 (17 + most) (m .time .clock) s
+      unfolding chained back emptied pass
+      way-adds s (resets c e) = after (reset-adds c m mem) (omega arith) (omega arith)
+      way-adds s (halts i e h) = let k = next-range i in omega arith
+      way-adds s (runs i r d) = let k = next-range i in omega arith
+      way-adds s (serves i u r o d) = let k = next-range i in after (plain-adds _ _) (omega arith) (omega arith)
+      way-adds s (pads i u r o d) = let k = next-range i in after (padded-adds u _ _) (omega arith) (omega arith)
+      way-adds s (chains p a u r d) = omega arith
+      way-adds s (returns p a r n d) = let k = f p a (r .holding) in omega arith
+      way-adds s (padsAgain p a u r n d) =
+          let k = f p a (r .holding) in after (padded-adds u _ mem) (omega arith) (omega arith)
 
 pub step-cycles : StepCycles
 unfolding StepCycles
-step-cycles L stamps m mem f r = let a = way-adds L stamps m mem f _ (way L stamps m mem r) in (a .at-least, a .at-most)
+step-cycles L stamps m mem f r =
+    let a = way-adds L stamps m mem 6 (λ p a h. held-framed L m p a f h .age-bound) _ (way L stamps m mem r) in
+    (a .at-least, omega arith)
+
+-- whatever its state, a running machine's clock rises
+heldAge : Visit → ℕ
+heldAge Free = 0
+heldAge (Held previous age) = age
+
+pub clock-rises : (L : Layout) (stamps : List ℕ) (m : Machine) (mem : List ℕ) → m .halted ≡ false
+    → m .time .clock + 1 ≤ step L stamps m mem .machine .time .clock
+unfolding heldAge
+clock-rises L stamps m mem r =
+    way-adds L stamps m mem (heldAge (m .visit)) (λ p a h. let k = ap heldAge h in omega arith) _ (way L stamps m mem r) .at-least
 
 pub halted-stays : HaltedStays
 unfolding HaltedStays step

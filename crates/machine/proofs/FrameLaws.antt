@@ -29,7 +29,9 @@ use Rattle.machine.specs.State.{World, world, vector, resetAddress, star
 use Rattle.machine.specs.Interrupt.{Step, serving, ageOf, due, reset, plain, padded, chained, back}
 use Rattle.machine.specs.Step.{savedFor, executed}
 use Rattle.machine.specs.Run.{stepOf, worldAfter}
-use Rattle.machine.specs.Calls.{wholeMemory, timetable, Verdict, taken, refused, verdict}
+use Rattle.machine.specs.declared.verdict.Verdict.{Verdict}
+use Rattle.machine.specs.declared.verdict.Verdict.the-variants.{Taken as taken, Refused as refused}
+use Rattle.machine.specs.Calls.{wholeMemory, timetable, verdict}
 use Rattle.machine.specs.Laws.{FramedAtStart, FrameKept, LengthKept, Sound, OnlyDistanceOrClock}
 use Rattle.machine.proofs.InstructionLaws.{halts-or-alarms}
 use Rattle.machine.proofs.StepLaws.{next, afterReturn, Way, resets, halts, runs, serves, pads, chains, returns, padsAgain, step-case}
@@ -111,7 +113,7 @@ module _ (L : Layout) (stamps : List ℕ) (v : accepted L ≡ true) where
   service-even : isEven (L .service) ≡ true
   service-even = eq-eqb _ _ (accepted-rules L v .service-even)
 
-  reset-framed : (c : Cause) (m : Machine) (mem : List ℕ) → FramedTime (m .time) → Framed L (reset L stamps c m mem .machine)
+  reset-framed : (c : Cause) (m : Machine) (mem : List ℕ) → FramedTime (m .time) → Framed L (reset stamps c m mem .machine)
   unfolding reset
   reset-framed c m mem t =
       record {

@@ -11,8 +11,6 @@ use Rattle.base.proofs.Tests.{choose-both}
 use Rattle.isa.specs.declared.instruction.Instruction.{Instruction}
 use Rattle.isa.specs.declared.read.Begun.{Begun}
 use Rattle.isa.specs.declared.read.Begun.the-variants.{Nothing, Found}
-use Rattle.isa.specs.declared.read.Reading.{Reading}
-use Rattle.isa.specs.declared.read.Reading.the-variants.{Decoded, Refused}
 use Rattle.isa.specs.Words.{begun}
 use Rattle.layout.specs.declared.sections.Layout.{Layout}
 use Rattle.layout.specs.declared.access.Right.the-variants.{Read as read}
@@ -22,7 +20,7 @@ use Rattle.layout.proofs.SectionLaws.{section-outside, outside-not-inside, same
 use Rattle.layout.proofs.AccessLaws.{elsewhere-touches-outside, outside-executed}
 use Rattle.machine.specs.Memory.{wordAt}
 use Rattle.machine.specs.Registers.{pc}
-use Rattle.machine.specs.Judge.{allMay, judgeAct, judgeWords, judgeSecond, judgeFirst, judge}
+use Rattle.machine.specs.Judge.{allMay, judgeSecond, judgeFirst, judge}
 use Rattle.machine.specs.Act.{memoryAfter}
 use Rattle.machine.specs.Laws.{SameOutside}
 use Rattle.machine.proofs.CauseLaws.{judged-first}
@@ -49,11 +47,6 @@ module _ (L : Layout) (fit : accepted L ≡ true) (rs mem bytes : List ℕ) (s :
         kept-or-stored (λ (f : List ℕ → List ℕ). SameOutside L (f mem) (f bytes)) rs i s (λ a w k. put-same L a w s)
 
     module _ (held : Bool) (e : isEven (pc rs) ≡ true) where
-      words-alike : (r : Reading) → judgeWords L held rs mem r ≡ judgeWords L held rs bytes r
-      unfolding judgeWords judgeAct
-      words-alike (Refused r) = refl
-      words-alike (Decoded i n) = refl
-
       -- a second word is looked at only where it is outside too
       second-word : sameSide L (pc rs) (sum16 (pc rs) 2) ≡ true → wordAt mem (sum16 (pc rs) 2) ≡ wordAt bytes (sum16 (pc rs) 2)
       second-word h =
@@ -63,8 +56,8 @@ module _ (L : Layout) (fit : accepted L ≡ true) (rs mem bytes : List ℕ) (s :
       unfolding judgeSecond
       second-alike b =
           choose-both _≡_ _
-          (λ t. choose-both _≡_ _ (λ h. rw (second-word h) (words-alike _)) (λ h. refl))
-          (λ t. words-alike _)
+          (λ t. choose-both _≡_ _ (λ h. rw (second-word h)) (λ h. refl))
+          (λ t. refl)
 
       first-alike : (b : Begun) → judgeFirst L held rs mem b ≡ judgeFirst L held rs bytes b
       unfolding judgeFirst

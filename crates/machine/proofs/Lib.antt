@@ -9,9 +9,12 @@ pub mod MemoryLaws
 pub mod StepLaws
 pub mod GieLaws
 pub mod TouchLaws
+pub mod Turns
 pub mod RegisterFrame
 pub mod TimeFrame
 pub mod FrameLaws
+pub mod Handed
+pub mod CallLaws
 pub mod CycleLaws
 pub mod TwelveLaws
 pub mod QuietLaws

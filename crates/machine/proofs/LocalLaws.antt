@@ -19,7 +19,9 @@ use Rattle.machine.specs.declared.answer.Outcome.the-variants.{Ran}
 use Rattle.machine.specs.Registers.{pc}
 use Rattle.machine.specs.Time.{deviceWord}
 use Rattle.machine.specs.State.{isHeld, framed}
-use Rattle.machine.specs.Judge.{Judged, faulty, acts, judge}
+use Rattle.machine.specs.declared.judge.Judged.{Judged}
+use Rattle.machine.specs.declared.judge.Judged.the-variants.{Faulty, Acts}
+use Rattle.machine.specs.Judge.{judge}
 use Rattle.machine.specs.Interrupt.{due}
 use Rattle.machine.specs.Step.{executed, ordinary, performed, stepJudged, step}
 use Rattle.machine.specs.Laws.{OutsideLocal, SameOutside, SameStep, SeenAlike, alike}
@@ -36,7 +38,7 @@ module _ (L : Layout) (fit : accepted L ≡ true) (stamps rs : List ℕ) (t : Ti
   abbrev there : Visit → Machine
   there u = machineOf rs t false q u copy
 
-  ordinary-alike : (v u : Visit) → isHeld v ≡ isHeld u → (i : Instruction) → judge L (isHeld v) rs mem p ≡ acts i
+  ordinary-alike : (v u : Visit) → isHeld v ≡ isHeld u → (i : Instruction) → judge L (isHeld v) rs mem p ≡ Acts i
       → resuming (isHeld v) i ≡ false → SameStep L (ordinary L stamps (here v) mem i) (ordinary L stamps (there u) bytes i)
   unfolding ordinary executed due
   ordinary-alike v u h i e n =
@@ -46,7 +48,7 @@ module _ (L : Layout) (fit : accepted L ≡ true) (stamps rs : List ℕ) (t : Ti
       (choose-both (SameStep L) _ (λ f. given-alike L h m)
       (λ f. interrupted-alike L stamps _ _ m fit _ _ _ _ v u h _ _ Ran _))
 
-  performed-alike : (v u : Visit) → isHeld v ≡ isHeld u → (i : Instruction) → judge L (isHeld v) rs mem p ≡ acts i
+  performed-alike : (v u : Visit) → isHeld v ≡ isHeld u → (i : Instruction) → judge L (isHeld v) rs mem p ≡ Acts i
       → SeenAlike L (performed L stamps (here v) mem v i) (performed L stamps (there u) bytes u i)
   unfolding performed
   performed-alike Free Free h i e = alike (ordinary-alike Free Free h i e (first-fails _ _ refl))
@@ -59,8 +61,8 @@ module _ (L : Layout) (fit : accepted L ≡ true) (stamps rs : List ℕ) (t : Ti
   judged-step-alike : (v u : Visit) → isHeld v ≡ isHeld u → (j : Judged) → judge L (isHeld v) rs mem p ≡ j
       → SeenAlike L (stepJudged L stamps (here v) mem j) (stepJudged L stamps (there u) bytes j)
   unfolding stepJudged
-  judged-step-alike v u h (faulty c) e = alike (reset-alike L stamps mem bytes s fit c _ _ refl)
-  judged-step-alike v u h (acts i) e = performed-alike v u h i e
+  judged-step-alike v u h (Faulty c) e = alike (reset-alike L stamps mem bytes s fit c _ _ refl)
+  judged-step-alike v u h (Acts i) e = performed-alike v u h i e
 
   step-alike : (v u : Visit) → isHeld v ≡ isHeld u → isEven (pc rs) ≡ true
       → SeenAlike L (step L stamps (here v) mem) (step L stamps (there u) bytes)

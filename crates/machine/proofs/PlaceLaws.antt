@@ -13,7 +13,7 @@ use Rattle.machine.specs.declared.state.Stamp.{Stamp}
 use Rattle.machine.specs.declared.state.Stamp.the-variants.{Never, At}
 use Rattle.machine.specs.Time.{happening, earlier, earliest}
 use Rattle.machine.specs.Calls.{risingFrom, timetable}
-use Rattle.machine.specs.Place.{stampAt, Passed, RightPlace}
+use Rattle.machine.specs.Place.{stampAt, Passed, RightPlace, Ready}
 use Rattle.machine.proofs.TimetableLaws.{rising-cons, rising-order, timetable-rising}
 
 -- ---- the earliest stamp
@@ -124,3 +124,13 @@ module _ (stamps : List ℕ) (clock place : ℕ) where
 
     pub place-end : length stamps ≤ place → RightPlace stamps clock place
     place-end h = record { passed = p; ahead = λ i k m. absurd (omega arith) }
+
+-- cycles that can pass from here on, later and fewer
+pub ready-later : {stamps : List ℕ} {clock place n : ℕ} → Ready stamps clock place n → (later m : ℕ) → clock ≤ later
+    → later + m ≤ clock + n → Ready stamps later place m
+ready-later r later m h k =
+    record {
+      timed = r .timed;
+      passed = record { fits = r .passed .fits; gone = λ i j. let g = r .passed .gone i j in omega arith };
+      room = let o = r .room in omega arith;
+    }

@@ -57,7 +57,7 @@ module _ (L : Layout) where
 
       -- the reset vector is outside
       pub reset-alike : accepted L ≡ true → (c : Cause) (m n : Machine) → m .time ≡ n .time
-          → SameStep L (reset L stamps c m mem) (reset L stamps c n bytes)
+          → SameStep L (reset stamps c m mem) (reset stamps c n bytes)
       unfolding reset resetAddress
       reset-alike fit c m n e =
           let o = section-outside L vector (vector-outside L vector fit (omega arith)) in

@@ -21,7 +21,9 @@ use Rattle.machine.specs.declared.answer.Outcome.the-variants.{Ran, Back
 use Rattle.machine.specs.Registers.{pc}
 use Rattle.machine.specs.Time.{pass}
 use Rattle.machine.specs.State.{isHeld}
-use Rattle.machine.specs.Judge.{Judged, faulty, acts, privileged, isReti, judge}
+use Rattle.machine.specs.declared.judge.Judged.{Judged}
+use Rattle.machine.specs.declared.judge.Judged.the-variants.{Faulty, Acts}
+use Rattle.machine.specs.Judge.{privileged, isReti, judge}
 use Rattle.machine.specs.Act.{memoryAfter}
 use Rattle.machine.specs.Interrupt.{Step, gives, due, reset, plain, padded, interrupted, chained, back, resumed}
 use Rattle.machine.specs.Step.{isHlt, executed, ordinary, performed, stepJudged, step}
@@ -42,7 +44,7 @@ abbrev pub afterReti : List ℕ → Machine → Time
 afterReti stamps m = pass stamps (cyclesOf Reti) (m .time)
 
 abbrev pub afterReturn : Layout → List ℕ → Machine → ℕ → ℕ → Machine
-afterReturn L stamps m previous age = back L stamps (afterReti stamps m) previous age (m .saved)
+afterReturn L stamps m previous age = back stamps (afterReti stamps m) previous age (m .saved)
 
 module _ (L : Layout) (stamps : List ℕ) (m : Machine) (mem : List ℕ) where
   -- the machine after an instruction
@@ -51,19 +53,19 @@ module _ (L : Layout) (stamps : List ℕ) (m : Machine) (mem : List ℕ) where
 
   -- an instruction acts that neither returns to a held visit nor halts
   pub record Runs (i : Instruction) : Type 0 where
-    pub acting : judged L m mem ≡ acts i
+    pub acting : judged L m mem ≡ Acts i
     pub staying : resuming (isHeld (m .visit)) i ≡ false
     pub going : isHlt i ≡ false
 
   -- RETI acts while a visit is held
   pub record Returns (previous age : ℕ) : Type 0 where
     pub holding : m .visit ≡ Held previous age
-    pub acting : judged L m mem ≡ acts Reti
+    pub acting : judged L m mem ≡ Acts Reti
 
   -- the ways in which a step goes
   pub data Way : Step → Type 0 where
-    resets : (c : Cause) → judged L m mem ≡ faulty c → Way (reset L stamps c m mem)
-    halts : (i : Instruction) → judged L m mem ≡ acts i → isHlt i ≡ true → Way (gives (next i) (bytes m mem i) Halted)
+    resets : (c : Cause) → judged L m mem ≡ Faulty c → Way (reset stamps c m mem)
+    halts : (i : Instruction) → judged L m mem ≡ Acts i → isHlt i ≡ true → Way (gives (next i) (bytes m mem i) Halted)
     runs : (i : Instruction) → Runs i → due (next i) ≡ Never → Way (gives (next i) (bytes m mem i) Ran)
     serves : (i : Instruction) (s : ℕ) → Runs i → inside L (pc (m .registers)) ≡ false → due (next i) ≡ At s
         → Way (plain L stamps (next i) (bytes m mem i))
@@ -91,7 +93,7 @@ module _ (L : Layout) (stamps : List ℕ) (m : Machine) (mem : List ℕ) where
   interrupted-way i r true h (At s) e = pads i s r h e
   interrupted-way i r false h (At s) e = serves i s r h e
 
-  ordinary-way : (i : Instruction) → judged L m mem ≡ acts i → resuming (isHeld (m .visit)) i ≡ false
+  ordinary-way : (i : Instruction) → judged L m mem ≡ Acts i → resuming (isHeld (m .visit)) i ≡ false
       → Way (ordinary L stamps m mem i)
   unfolding ordinary executed
   ordinary-way i e n =
@@ -111,18 +113,18 @@ module _ (L : Layout) (stamps : List ℕ) (m : Machine) (mem : List ℕ) where
   resumed-way previous age r Never e = return-way previous age r e _ refl
   resumed-way previous age r (At s) e = chains previous age s r e
 
-  performed-way : (v : Visit) → m .visit ≡ v → (i : Instruction) → judged L m mem ≡ acts i → Way (performed L stamps m mem v i)
+  performed-way : (v : Visit) → m .visit ≡ v → (i : Instruction) → judged L m mem ≡ Acts i → Way (performed L stamps m mem v i)
   unfolding performed all if_then_else_
   performed-way Free h i e = ordinary-way i e (ap (λ (v : Visit). resuming (isHeld v) i) h)
   performed-way (Held previous age) h i e =
       choose Way (isReti i)
-      (λ r. rw (is-reti i r) (resumed-way previous age (record { holding = h; acting = e ∙ ap acts (is-reti i r) }) _ refl))
+      (λ r. rw (is-reti i r) (resumed-way previous age (record { holding = h; acting = e ∙ ap Acts (is-reti i r) }) _ refl))
       (λ r. ordinary-way i e (second-fails (isHeld (m .visit)) (isReti i) r))
 
   judged-way : (j : Judged) → judged L m mem ≡ j → Way (stepJudged L stamps m mem j)
   unfolding stepJudged
-  judged-way (faulty c) e = resets c e
-  judged-way (acts i) e = performed-way (m .visit) refl i e
+  judged-way (Faulty c) e = resets c e
+  judged-way (Acts i) e = performed-way (m .visit) refl i e
 
   -- what holds of a halted machine as it is, and of every way, holds of a step
   pub step-case : (P : Step → Type 0) → (m .halted ≡ true → P (gives m mem Halted)) → ((s : Step) → Way s → P s)
@@ -139,7 +141,7 @@ module _ (L : Layout) (stamps : List ℕ) (m : Machine) (mem : List ℕ) where
   unfolding executed
   next-slot i = alarmed-else (m .registers) _ i .1
 
-  module _ (i : Instruction) (e : judged L m mem ≡ acts i) (h : inside L (pc (m .registers)) ≡ true) where
+  module _ (i : Instruction) (e : judged L m mem ≡ Acts i) (h : inside L (pc (m .registers)) ≡ true) where
     unprivileged-inside : privileged i ≡ false
     unprivileged-inside = acts-unprivileged L _ (m .registers) mem (m .previous) i e h
 
@@ -166,11 +168,11 @@ module _ (L : Layout) (stamps : List ℕ) (m : Machine) (mem : List ℕ) where
     way = subst Way (sym running-step) (judged-way (judged L m mem) refl)
 
     -- the equation of each way
-    pub step-faulty : (c : Cause) → judged L m mem ≡ faulty c → step L stamps m mem ≡ reset L stamps c m mem
+    pub step-faulty : (c : Cause) → judged L m mem ≡ Faulty c → step L stamps m mem ≡ reset stamps c m mem
     unfolding stepJudged
     step-faulty c e = running-step ∙ ap (stepJudged L stamps m mem) e
 
-    pub step-acts : (i : Instruction) → judged L m mem ≡ acts i → step L stamps m mem ≡ performed L stamps m mem (m .visit) i
+    pub step-acts : (i : Instruction) → judged L m mem ≡ Acts i → step L stamps m mem ≡ performed L stamps m mem (m .visit) i
     unfolding stepJudged
     step-acts i e = running-step ∙ ap (stepJudged L stamps m mem) e
 
@@ -180,7 +182,7 @@ module _ (L : Layout) (stamps : List ℕ) (m : Machine) (mem : List ℕ) where
     step-runs i r = step-acts i (r .acting) ∙ performed-ordinary (m .visit) i (r .staying) ∙ if-false _ _ _ (r .going)
 
     -- an instruction inside, into which a request breaks
-    pub step-pads : (i : Instruction) (s : ℕ) → judged L m mem ≡ acts i → inside L (pc (m .registers)) ≡ true → due (next i) ≡ At s
+    pub step-pads : (i : Instruction) (s : ℕ) → judged L m mem ≡ Acts i → inside L (pc (m .registers)) ≡ true → due (next i) ≡ At s
         → step L stamps m mem ≡ padded L stamps s (next i) (bytes m mem i)
     unfolding interrupted
     step-pads i s e h d = step-runs i (runs-inside i e h) ∙ rw (h, d)

@@ -24,7 +24,7 @@ use Rattle.machine.specs.Memory.{byteAt, putWord}
 use Rattle.machine.specs.Registers.{register, pc, cleared}
 use Rattle.machine.specs.Outcome.{isReset}
 use Rattle.machine.specs.Time.{emptied}
-use Rattle.machine.specs.Judge.{acts}
+use Rattle.machine.specs.declared.judge.Judged.the-variants.{Acts}
 use Rattle.machine.specs.Interrupt.{Step, reset, plain, padded, chained}
 use Rattle.machine.specs.Step.{step}
 use Rattle.machine.specs.Laws.{LengthKept, WritesOwnSide, Fallen, ResetAfterStore}
@@ -62,7 +62,7 @@ module _ (L : Layout) (m : Machine) (mem : List ℕ) where
         other = λ v a k. put-side L v x b w a (λ f. n v (sym f ∙ sym k)) ∙ o .other v a k;
       }
 
-  pub acted-own : (i : Instruction) → judged L m mem ≡ acts i → Own (bytes m mem i)
+  pub acted-own : (i : Instruction) → judged L m mem ≡ Acts i → Own (bytes m mem i)
   acted-own i e =
       kept-or-stored (λ (f : List ℕ → List ℕ). Own (f mem)) (m .registers) i kept-own λ b w h.
       let may-write = each-may L _ Write b [] (rw h at (acts-writes L _ _ mem _ i e)) .0 in
@@ -106,7 +106,7 @@ writes-own-side L stamps m mem a v =
 -- a step whose outcome is a reset is the reset of some machine and memory
 abbrev FromReset : Layout → List ℕ → Step → Type 0
 FromReset L stamps s =
-    (c : Cause) → s .outcome ≡ Reset c → (d : Cause) × ((x : Machine) × ((bytes : List ℕ) × (s ≡ reset L stamps d x bytes)))
+    (c : Cause) → s .outcome ≡ Reset c → (d : Cause) × ((x : Machine) × ((bytes : List ℕ) × (s ≡ reset stamps d x bytes)))
 
 -- an outcome that is no reset
 other : {A : Type 0} {o : Outcome} {c : Cause} → isReset o ≡ false → o ≡ Reset c → A
@@ -129,7 +129,7 @@ module _ (L : Layout) (stamps : List ℕ) where
   way-reset m mem s (padsAgain p a u r n d) c f = other refl f
 
   -- what a reset leaves
-  reset-leaves : (d : Cause) (x : Machine) (bytes : List ℕ) → Fallen (reset L stamps d x bytes)
+  reset-leaves : (d : Cause) (x : Machine) (bytes : List ℕ) → Fallen (reset stamps d x bytes)
   unfolding reset cleared register emptied
   reset-leaves d x bytes = record { address = refl; slot = refl; visit = refl }
 

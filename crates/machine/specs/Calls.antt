@@ -14,12 +14,17 @@ use Rattle.machine.specs.declared.state.Time.{Time}
 use Rattle.machine.specs.declared.state.Machine.{Machine}
 use Rattle.machine.specs.declared.answer.Outcome.{Outcome}
 use Rattle.machine.specs.declared.answer.End.{End}
+use Rattle.machine.specs.declared.answer.Started.{Started}
+use Rattle.machine.specs.declared.answer.Stepped.{Stepped}
+use Rattle.machine.specs.declared.answer.Ran.{Ran}
 use Rattle.machine.specs.declared.answer.StartAnswer.{StartAnswer}
-use Rattle.machine.specs.declared.answer.StartAnswer.the-variants.{Made as Started, Refused as NotStarted}
+use Rattle.machine.specs.declared.answer.StartAnswer.the-variants.{Made as HasStarted, Refused as NotStarted}
 use Rattle.machine.specs.declared.answer.StepAnswer.{StepAnswer}
-use Rattle.machine.specs.declared.answer.StepAnswer.the-variants.{Made as Stepped, Refused as NotStepped}
+use Rattle.machine.specs.declared.answer.StepAnswer.the-variants.{Made as HasStepped, Refused as NotStepped}
 use Rattle.machine.specs.declared.answer.RunAnswer.{RunAnswer}
 use Rattle.machine.specs.declared.answer.RunAnswer.the-variants.{Made as HasRun, Refused as NotRun}
+use Rattle.machine.specs.declared.verdict.Verdict.{Verdict}
+use Rattle.machine.specs.declared.verdict.Verdict.the-variants.{Taken as taken, Refused as refused}
 use Rattle.machine.specs.State.{World, world, start, framed}
 use Rattle.machine.specs.Interrupt.{Step}
 use Rattle.machine.specs.Step.{step}
@@ -46,11 +51,6 @@ pub record Test : Type 0 where
 -- a refusal with its test
 abbrev test : Refusal → Bool → Test
 test r h = record { refusal = r; holds = h }
-
--- whether a call is taken, or what refuses it
-pub data Verdict : Type 0 where
-  taken : Verdict
-  refused : Refusal → Verdict
 
 -- the first test that fails
 unfoldable pub verdict : List Test → Verdict
@@ -87,7 +87,7 @@ called m mem a = record { machine = m; memory = mem; answer = a }
 
 -- what start leaves, by the verdict
 abbrev pub startAnswered : List ℕ → Verdict → Called StartAnswer
-startAnswered mem taken = called (start mem) mem Started
+startAnswered mem taken = called (start mem) mem HasStarted
 startAnswered mem (refused r) = called (start []) mem (NotStarted r)
 
 -- start takes the memory only; where it is refused, the machine handed back is the start state of an empty memory
@@ -98,7 +98,7 @@ module _ (L : Layout) (stamps : List ℕ) where
   -- what a step call leaves, by the verdict
   abbrev pub stepAnswered : World → Verdict → Called StepAnswer
   stepAnswered w taken =
-      let s = stepOf L stamps w in called (s .machine) (s .memory) (Stepped (s .outcome))
+      let s = stepOf L stamps w in called (s .machine) (s .memory) (HasStepped (s .outcome))
   stepAnswered w (refused r) = called (w .machine) (w .memory) (NotStepped r)
 
   -- step
@@ -117,15 +117,34 @@ module _ (L : Layout) (stamps : List ℕ) where
 
 -- the number of the refusal, 0 where there is none
 abbrev pub startRefusal : StartAnswer → ℕ
-startRefusal Started = 0
+startRefusal HasStarted = 0
 startRefusal (NotStarted r) = refusalNumber r
 
 -- of a step call's answer
 abbrev pub stepRefusal : StepAnswer → ℕ
-stepRefusal (Stepped o) = 0
+stepRefusal (HasStepped o) = 0
 stepRefusal (NotStepped r) = refusalNumber r
 
 -- of a run call's answer
 abbrev pub runRefusal : RunAnswer → ℕ
 runRefusal (HasRun e n) = 0
 runRefusal (NotRun r) = refusalNumber r
+
+-- of a verdict
+abbrev pub refusedBy : Verdict → ℕ
+refusedBy taken = 0
+refusedBy (refused r) = refusalNumber r
+
+-- what code hands back of a call: memory it writes where it lies
+abbrev pub started : Called StartAnswer → Started
+started c = record { machine = c .machine; answer = c .answer }
+
+abbrev pub stepped : Called StepAnswer → Stepped
+stepped c = record { machine = c .machine; answer = c .answer }
+
+abbrev pub ran : Called RunAnswer → Ran
+ran c = record { machine = c .machine; answer = c .answer }
+
+-- and of a run that is taken
+abbrev pub stopped : Stop → Ran
+stopped s = record { machine = s .machine; answer = HasRun (s .end) (s .steps) }

@@ -18,6 +18,7 @@ use Rattle.machine.specs.declared.answer.Cause.{Cause}
 use Rattle.machine.specs.declared.answer.Cause.the-variants.{Write}
 use Rattle.machine.specs.declared.answer.Outcome.{Outcome}
 use Rattle.machine.specs.declared.answer.Outcome.the-variants.{Plain, Padded, Chained, Back, Reset}
+use Rattle.machine.specs.declared.interrupt.Moved.{Moved}
 use Rattle.machine.specs.Memory.{putWord}
 use Rattle.machine.specs.Registers.{pc, sp, sr, zeros, cleared}
 use Rattle.machine.specs.Time.{pass, emptied}
@@ -33,6 +34,10 @@ pub record Step : Type 0 where
 abbrev pub gives : Machine → List ℕ → Outcome → Step
 gives m mem o = record { machine = m; memory = mem; outcome = o }
 
+-- what code hands back of a step: memory it writes where it lies
+abbrev pub moved : Step → Moved
+moved s = record { machine = s .machine; outcome = s .outcome }
+
 -- a service starts: the previous address is FFFE
 abbrev pub serving : List ℕ → Time → Visit → List ℕ → Machine
 serving registers time visit saved =
@@ -46,11 +51,12 @@ ageOf clock stamp = min (clock - stamp) 6
 unfoldable pub due : Machine → Stamp
 due m = if gie (sr (m .registers)) then m .time .slot else Never
 
-module _ (L : Layout) (stamps : List ℕ) where
+module _ (stamps : List ℕ) where
   -- reset: 4 cycles pass; then the slot empties, any held visit is dropped, registers become 0, pc the reset vector's word
   unfoldable pub reset : Cause → Machine → List ℕ → Step
   reset c m mem = gives (fresh (cleared (resetAddress mem)) (emptied (pass stamps 4 (m .time)))) mem (Reset c)
 
+module _ (L : Layout) (stamps : List ℕ) where
   -- plain: the slot empties, pc and sr are pushed, sr becomes 0, 6 cycles pass; a reset where either word is code or data
   unfoldable pub plain : Machine → List ℕ → Step
   plain m mem =
@@ -60,7 +66,7 @@ module _ (L : Layout) (stamps : List ℕ) where
       gives
       (serving (set (set (set (m .registers) 1 low) 2 0) 0 (L .service)) (pass stamps 6 (emptied (m .time))) (m .visit) (m .saved))
       (putWord (putWord mem high (pc (m .registers))) low (sr (m .registers))) Plain
-      else reset Write m mem
+      else reset stamps Write m mem
 
   -- padded: 6 - age cycles pass, the slot empties, 6 more pass; registers, previous address and age are held
   unfoldable pub padded : ℕ → Machine → List ℕ → Step
@@ -81,6 +87,7 @@ module _ (L : Layout) (stamps : List ℕ) where
   unfoldable pub chained : Time → Visit → List ℕ → List ℕ → Step
   chained t v saved mem = gives (serving (cleared (L .service)) (pass stamps 6 (emptied t)) v saved) mem Chained
 
+module _ (stamps : List ℕ) where
   -- back: registers and previous address return, age cycles pass
   unfoldable pub back : Time → ℕ → ℕ → List ℕ → Machine
   back t previous age saved =
@@ -93,8 +100,9 @@ module _ (L : Layout) (stamps : List ℕ) where
         halted = false;
       }
 
+module _ (L : Layout) (stamps : List ℕ) where
   -- RETI while a visit is held, its 5 cycles passed: chained if the slot is filled; else back, and the padded check once more
   unfoldable pub resumed : Time → ℕ → ℕ → List ℕ → List ℕ → Stamp → Step
-  resumed t previous age saved mem (At stamp) = chained t (Held previous age) saved mem
+  resumed t previous age saved mem (At stamp) = chained L stamps t (Held previous age) saved mem
   resumed t previous age saved mem Never =
-      let m : Machine = back t previous age saved in interrupted true Back m mem (due m)
+      let m : Machine = back stamps t previous age saved in interrupted L stamps true Back m mem (due m)

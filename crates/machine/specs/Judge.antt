@@ -18,15 +18,11 @@ use Rattle.layout.specs.declared.access.Right.{Right}
 use Rattle.layout.specs.declared.access.Right.the-variants.{Execute as execute, Read as read, Write as write}
 use Rattle.layout.specs.Sections.{inside, sameSide}
 use Rattle.layout.specs.Access.{may}
-use Rattle.machine.specs.declared.answer.Cause.{Cause}
+use Rattle.machine.specs.declared.judge.Judged.{Judged}
+use Rattle.machine.specs.declared.judge.Judged.the-variants.{Faulty, Acts}
 use Rattle.machine.specs.declared.answer.Cause.the-variants.{Execute, Reentry, FirstWord, SecondSide, SecondWord, Inside, Read, Write}
 use Rattle.machine.specs.Memory.{wordAt}
 use Rattle.machine.specs.Registers.{register, pc, sp}
-
--- an instruction may act, or a cause resets
-pub data Judged : Type 0 where
-  faulty : Cause → Judged
-  acts : Instruction → Judged
 
 -- the addresses of the words that an instruction reads
 abbrev pub reads : List ℕ → Instruction → List ℕ
@@ -91,7 +87,7 @@ isReti (Store s d) = false
 isReti (Compute o s d) = false
 isReti (Not d) = false
 
-module _ (L : Layout) (held : Bool) (rs : List ℕ) (mem : List ℕ) where
+module _ (L : Layout) (held : Bool) (rs : List ℕ) where
   -- RETI while a visit is held reads no memory
   abbrev returns : Instruction → Bool
   returns i = all (held ∷ isReti i ∷ [])
@@ -99,33 +95,34 @@ module _ (L : Layout) (held : Bool) (rs : List ℕ) (mem : List ℕ) where
   -- causes 6, 7 and 8
   unfoldable pub judgeAct : Instruction → Judged
   judgeAct i =
-      if all (inside L (pc rs) ∷ privileged i ∷ []) then faulty Inside
-      else if returns i then acts i
-      else if not (allMay L (pc rs) read (reads rs i)) then faulty Read
-      else if not (allMay L (pc rs) write (writes rs i)) then faulty Write
-      else acts i
+      if all (inside L (pc rs) ∷ privileged i ∷ []) then Faulty Inside
+      else if returns i then Acts i
+      else if not (allMay L (pc rs) read (reads rs i)) then Faulty Read
+      else if not (allMay L (pc rs) write (writes rs i)) then Faulty Write
+      else Acts i
 
   -- cause 5
   unfoldable pub judgeWords : Reading → Judged
-  judgeWords (Refused r) = faulty SecondWord
+  judgeWords (Refused r) = Faulty SecondWord
   judgeWords (Decoded i n) = judgeAct i
 
+module _ (L : Layout) (held : Bool) (rs mem : List ℕ) where
   -- cause 4; a second word that there is not is not looked at
   unfoldable pub judgeSecond : Begun → Judged
   judgeSecond b =
       if twoWords b then
-      if sameSide L (pc rs) (sum16 (pc rs) 2) then judgeWords (finished b (wordAt mem (sum16 (pc rs) 2)))
-      else faulty SecondSide
-      else judgeWords (finished b 0)
+      if sameSide L (pc rs) (sum16 (pc rs) 2) then judgeWords L held rs (finished b (wordAt mem (sum16 (pc rs) 2)))
+      else Faulty SecondSide
+      else judgeWords L held rs (finished b 0)
 
   -- cause 3
   unfoldable pub judgeFirst : Begun → Judged
-  judgeFirst Nothing = faulty FirstWord
+  judgeFirst Nothing = Faulty FirstWord
   judgeFirst (Found r s d) = judgeSecond (Found r s d)
 
   -- causes 1 and 2, and then the others, from the previous instruction's address
   unfoldable pub judge : ℕ → Judged
   judge previous =
-      if not (may L previous execute (pc rs)) then faulty Execute
-      else if all (inside L (pc rs) ∷ held ∷ []) then faulty Reentry
+      if not (may L previous execute (pc rs)) then Faulty Execute
+      else if all (inside L (pc rs) ∷ held ∷ []) then Faulty Reentry
       else judgeFirst (begun (wordAt mem (pc rs)))

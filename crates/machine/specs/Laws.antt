@@ -33,12 +33,14 @@ use Rattle.machine.specs.Memory.{byteAt, wordAt}
 use Rattle.machine.specs.Registers.{pc, sr}
 use Rattle.machine.specs.Time.{pass, emptied}
 use Rattle.machine.specs.State.{World, isHeld, resetAddress, start, framed}
-use Rattle.machine.specs.Judge.{faulty, acts, reads, writes, privileged, isReti, judgeAct, judge}
+use Rattle.machine.specs.declared.judge.Judged.the-variants.{Faulty, Acts}
+use Rattle.machine.specs.Judge.{reads, writes, privileged, isReti, judgeAct, judge}
 use Rattle.machine.specs.Act.{registersAfter, memoryAfter}
 use Rattle.machine.specs.Interrupt.{Step, gives, padded}
 use Rattle.machine.specs.Step.{executed, step}
 use Rattle.machine.specs.Run.{lastClock, Stop, worldAfter, stepOf, run, moves}
-use Rattle.machine.specs.Calls.{wholeMemory, timetable, taken, refused, verdict, runTests}
+use Rattle.machine.specs.declared.verdict.Verdict.the-variants.{Taken as taken, Refused as refused}
+use Rattle.machine.specs.Calls.{wholeMemory, timetable, verdict, runTests}
 
 -- ---- time
 
@@ -131,7 +133,7 @@ AllIn L s (a ∷ addresses) = (section L (even a) ≡ s) × AllIn L s addresses
 -- touches no memory
 unfoldable pub TouchesOwnSide : Type 0
 TouchesOwnSide =
-    (L : Layout) (held : Bool) (rs mem : List ℕ) (previous : ℕ) (i : Instruction) → judge L held rs mem previous ≡ acts i
+    (L : Layout) (held : Bool) (rs mem : List ℕ) (previous : ℕ) (i : Instruction) → judge L held rs mem previous ≡ Acts i
     → all (held ∷ isReti i ∷ []) ≡ false
     → (inside L (pc rs) ≡ true → AllIn L Data (reads rs i) × AllIn L Data (writes rs i))
     × (inside L (pc rs) ≡ false → AllIn L Outside (reads rs i) × AllIn L Outside (writes rs i))
@@ -143,7 +145,7 @@ unfoldable pub TwelveInside : Type 0
 TwelveInside =
     (L : Layout) (stamps : List ℕ) (m : Machine) (mem : List ℕ) (i : Instruction) (s : ℕ)
     → m .halted ≡ false → inside L (pc (m .registers)) ≡ true → m .visit ≡ Free
-    → judge L (isHeld (m .visit)) (m .registers) mem (m .previous) ≡ acts i
+    → judge L (isHeld (m .visit)) (m .registers) mem (m .previous) ≡ Acts i
     → gie (sr (m .registers)) ≡ true → m .time .slot ≡ Never → executed L stamps m mem i .time .slot ≡ At s
     → (step L stamps m mem .outcome ≡ Padded) × (step L stamps m mem .machine .time .clock ≡ s + 12)
 
@@ -152,7 +154,7 @@ unfoldable pub TwelveInReturn : Type 0
 TwelveInReturn =
     (L : Layout) (stamps : List ℕ) (m : Machine) (mem : List ℕ) (previous age s : ℕ)
     → m .halted ≡ false → framed L m ≡ true → m .visit ≡ Held previous age
-    → judge L (isHeld (m .visit)) (m .registers) mem (m .previous) ≡ acts Reti
+    → judge L (isHeld (m .visit)) (m .registers) mem (m .previous) ≡ Acts Reti
     → pass stamps (cyclesOf Reti) (m .time) .slot ≡ Never
     → pass stamps age (pass stamps (cyclesOf Reti) (m .time)) .slot ≡ At s
     → (step L stamps m mem .outcome ≡ Padded) × (step L stamps m mem .machine .time .clock ≡ s + 12)
@@ -170,13 +172,13 @@ PaddedByStamp =
 unfoldable pub BarredUnread : Type 0
 BarredUnread =
     (L : Layout) (held : Bool) (rs mem : List ℕ) (previous : ℕ) → may L previous execute (pc rs) ≡ false
-    → judge L held rs mem previous ≡ faulty Execute
+    → judge L held rs mem previous ≡ Faulty Execute
 
 -- the module may not be entered again while a visit is held
 unfoldable pub NoReentry : Type 0
 NoReentry =
     (L : Layout) (rs mem : List ℕ) (previous : ℕ) → may L previous execute (pc rs) ≡ true → inside L (pc rs) ≡ true
-    → judge L true rs mem previous ≡ faulty Reentry
+    → judge L true rs mem previous ≡ Faulty Reentry
 
 -- a second word on another side is not read, nor is anything that it would tell
 unfoldable pub SecondElsewhereUnread : Type 0
@@ -184,20 +186,20 @@ SecondElsewhereUnread =
     (L : Layout) (held : Bool) (rs mem : List ℕ) (previous : ℕ)
     → may L previous execute (pc rs) ≡ true → all (inside L (pc rs) ∷ held ∷ []) ≡ false
     → twoWords (begun (wordAt mem (pc rs))) ≡ true → sameSide L (pc rs) (sum16 (pc rs) 2) ≡ false
-    → judge L held rs mem previous ≡ faulty SecondSide
+    → judge L held rs mem previous ≡ Faulty SecondSide
 
 -- HLT, IN and OUT inside reset by that name, whatever they would do
 unfoldable pub PrivilegedInside : Type 0
 PrivilegedInside =
-    (L : Layout) (held : Bool) (rs mem : List ℕ) (i : Instruction) → inside L (pc rs) ≡ true → privileged i ≡ true
-    → judgeAct L held rs mem i ≡ faulty Inside
+    (L : Layout) (held : Bool) (rs : List ℕ) (i : Instruction) → inside L (pc rs) ≡ true → privileged i ≡ true
+    → judgeAct L held rs i ≡ Faulty Inside
 
 -- RETI while a visit is held chains if the slot is filled, whatever GIE is
 unfoldable pub ChainsWhateverGie : Type 0
 ChainsWhateverGie =
     (L : Layout) (stamps : List ℕ) (m : Machine) (mem : List ℕ) (previous age s : ℕ)
     → m .halted ≡ false → m .visit ≡ Held previous age
-    → judge L (isHeld (m .visit)) (m .registers) mem (m .previous) ≡ acts Reti
+    → judge L (isHeld (m .visit)) (m .registers) mem (m .previous) ≡ Acts Reti
     → pass stamps (cyclesOf Reti) (m .time) .slot ≡ At s
     → step L stamps m mem .outcome ≡ Chained
 
@@ -299,5 +301,5 @@ unfoldable pub InsideConfined : Type 0
 InsideConfined =
     (L : Layout) (stamps : List ℕ) (m : Machine) (mem : List ℕ) (i : Instruction) → accepted L ≡ true
     → inside L (pc (m .registers)) ≡ true → m .visit ≡ Free
-    → judge L (isHeld (m .visit)) (m .registers) mem (m .previous) ≡ acts i
+    → judge L (isHeld (m .visit)) (m .registers) mem (m .previous) ≡ Acts i
     → Confined L stamps m mem i

@@ -1,11 +1,14 @@
 -- The place of a clock in the timetable: where the stamps that are still to happen begin.
-use Prim.Native.Nat.{ℕ, _≤_, _<_}
+use Prim.Native.Nat.{ℕ, _+_, _^_, _≤_, _<_}
+use mathlib.Core.Path.{_≡_}
+use mathlib.Core.Bool.{true}
 use mathlib.Core.List.{List}
 use lib.Dec.{ltb}
 use lib.ListN.{getD, length}
 use Rattle.base.specs.Test.{if_then_else_}
 use Rattle.machine.specs.declared.state.Stamp.{Stamp}
 use Rattle.machine.specs.declared.state.Stamp.the-variants.{Never, At}
+use Rattle.machine.specs.Calls.{timetable}
 
 -- the stamp at a place, if there is one
 unfoldable pub stampAt : List ℕ → ℕ → Stamp
@@ -20,3 +23,9 @@ pub record Passed (stamps : List ℕ) (clock place : ℕ) : Type 0 where
 pub record RightPlace (stamps : List ℕ) (clock place : ℕ) : Type 0 where
   pub passed : Passed stamps clock place
   pub ahead : (i : ℕ) → place ≤ i → i < length stamps → clock < getD stamps i 0
+
+-- n cycles can pass: of a timetable, from a place that the clock has passed, within the clock's 64 bits
+pub record Ready (stamps : List ℕ) (clock place n : ℕ) : Type 0 where
+  pub timed : timetable stamps ≡ true
+  pub passed : Passed stamps clock place
+  pub room : clock + n ≤ 2 ^ 63

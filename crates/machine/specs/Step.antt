@@ -17,7 +17,9 @@ use Rattle.machine.specs.declared.answer.Outcome.the-variants.{Ran, Halt
 use Rattle.machine.specs.Registers.{register, pc, zeros}
 use Rattle.machine.specs.Time.{pass, setAlarm, deviceWord}
 use Rattle.machine.specs.State.{isHeld}
-use Rattle.machine.specs.Judge.{Judged, faulty, acts, isReti, judge}
+use Rattle.machine.specs.declared.judge.Judged.{Judged}
+use Rattle.machine.specs.declared.judge.Judged.the-variants.{Faulty, Acts}
+use Rattle.machine.specs.Judge.{isReti, judge}
 use Rattle.machine.specs.Act.{registersAfter, memoryAfter}
 use Rattle.machine.specs.Interrupt.{Step, gives, due, reset, interrupted, resumed}
 
@@ -76,7 +78,7 @@ module _ (L : Layout) (stamps : List ℕ) where
       else interrupted L stamps (inside L (pc (m .registers))) Ran next bytes (due next)
 
   -- RETI to a held visit, its cycles passed
-  abbrev returning : Machine → List ℕ → Time → ℕ → ℕ → Step
+  abbrev pub returning : Machine → List ℕ → Time → ℕ → ℕ → Step
   returning m mem t previous age = resumed L stamps t previous age (m .saved) mem (t .slot)
 
   -- RETI while a visit is held returns to it
@@ -87,8 +89,8 @@ module _ (L : Layout) (stamps : List ℕ) where
 
   -- a cause resets, an instruction acts
   unfoldable pub stepJudged : Machine → List ℕ → Judged → Step
-  stepJudged m mem (faulty c) = reset L stamps c m mem
-  stepJudged m mem (acts i) = performed m mem (m .visit) i
+  stepJudged m mem (Faulty c) = reset stamps c m mem
+  stepJudged m mem (Acts i) = performed m mem (m .visit) i
 
   -- one step; a halted machine answers "halted" unchanged
   unfoldable pub step : Machine → List ℕ → Step

@@ -1,12 +1,23 @@
 // The clock, the requests and the pending slot that takes them.
 ghost use mathlib.Core.Path.{_≡_};
 ghost use mathlib.Core.Bool.{true};
-ghost use Prim.Native.Nat.{_≤_, _^_};
-ghost use Rattle.machine.specs.Time.{happens, happening, earlier, filledBy, alarmLeft, emptied, setAlarm, deviceWord, pass};
+ghost use Prim.Native.Nat.{_+_, _≤_, _^_};
+ghost use Rattle.machine.specs.Time.{startTime, happens, happening, earlier, filledBy, alarmLeft, emptied, setAlarm, deviceWord, pass};
 ghost use Rattle.machine.specs.Calls.{timetable};
-ghost use Rattle.machine.specs.Place.{stampAt, Passed, RightPlace};
+ghost use Rattle.machine.specs.Place.{stampAt, Passed, RightPlace, Ready};
 use crate::state::Stamp;
 use crate::state::Time;
+
+// The clock at the start, with no request pending and no alarm.
+pub fn start_time() -> Time
+    ensures { λ r. ⌜ r ≡ startTime ⌝ }
+{
+    Time {
+        clock: 0,
+        slot: Stamp::Never,
+        alarm: Stamp::Never,
+    }
+}
 
 // A request with this stamp happens while the clock passes from a to b.
 fn happens(a: u64, b: u64, stamp: u64) -> bool
@@ -107,8 +118,8 @@ pub fn first_place(stamps: &[u64], clock: u64) -> usize
 }
 
 // n cycles pass, with the clock's place: the only thing that moves the clock, fills the slot and rings the alarm.
-pub fn pass(t: Time, stamps: &[u64], place: usize, n: u64) -> Time
-    requires { ⌜ (t .clock ≤ 2 ^ 63) × (n ≤ 2 ^ 62) ⌝ }
+fn pass(t: Time, stamps: &[u64], place: usize, n: u64) -> Time
+    requires { ⌜ t .clock + n ≤ 2 ^ 63 ⌝ }
     requires { ⌜ (timetable (now stamps) ≡ true) × RightPlace (now stamps) (t .clock) place ⌝ }
     ensures { λ r. ⌜ r ≡ pass (now (stamps .entry)) n t ⌝ }
 {
@@ -123,6 +134,15 @@ pub fn pass(t: Time, stamps: &[u64], place: usize, n: u64) -> Time
         slot: filled_by(slot, request),
         alarm: alarm_left(a, b, alarm),
     }
+}
+
+// n cycles pass, from a place that the clock has passed.
+pub fn wait(t: Time, stamps: &[u64], place: usize, n: u64) -> Time
+    requires { ⌜ Ready (now stamps) (t .clock) place n ⌝ }
+    ensures { λ r. ⌜ r ≡ pass (now (stamps .entry)) n t ⌝ }
+{
+    let next = advance(stamps, place, t.clock);
+    pass(t, stamps, next, n)
 }
 
 // The slot empties.

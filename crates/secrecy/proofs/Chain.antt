@@ -12,11 +12,14 @@ use Rattle.layout.specs.Rules.{accepted}
 use Rattle.machine.specs.declared.answer.End.the-variants.{Spent}
 use Rattle.machine.specs.State.{World, world}
 use Rattle.machine.specs.Run.{lastClock, Going, goes, stops, ending, Stop, Move, worldAfter, stepOf, stopOr, runFrom, run, noneOr, moves}
-use Rattle.machine.specs.Calls.{Test, Verdict, taken, refused, verdict, stepTests, runTests, stepCall, runCall}
+use Rattle.machine.specs.declared.verdict.Verdict.{Verdict}
+use Rattle.machine.specs.declared.verdict.Verdict.the-variants.{Taken as taken, Refused as refused}
+use Rattle.machine.specs.Calls.{Test, verdict, stepTests, runTests, stepCall, runCall}
 use Rattle.machine.specs.Laws.{HaltedStays, FrameKept, LengthKept, Sound}
 use Rattle.machine.proofs.CycleLaws.{halted-stays}
 use Rattle.machine.proofs.FrameLaws.{frame-kept}
 use Rattle.machine.proofs.TouchLaws.{length-kept}
+use Rattle.machine.proofs.CallLaws.{first-holds}
 use Rattle.machine.proofs.RunLaws.{Ends, running, haltedNow, lateNow, ends}
 use Rattle.secrecy.specs.Calls.{Call, stepping, movesWhen, made, leftBy, runOf, leftByAll}
 use Rattle.secrecy.specs.Calls
@@ -25,15 +28,6 @@ use Rattle.secrecy.specs.Calls
 unfoldable pub endOf : World → List Move → World
 endOf w [] = w
 endOf w (v ∷ vs) = endOf (worldAfter (v .after)) vs
-
--- ---- what a verdict says of the tests
-
--- a call that is taken passes each test
-pub first-holds : (t : Test) (ts : List Test) → verdict (t ∷ ts) ≡ taken → (t .holds ≡ true) × (verdict ts ≡ taken)
-unfolding verdict
-first-holds t ts e =
-    cases (t .holds) (λ h. (h, sym (if-true _ _ _ h) ∙ e))
-    (λ h. let z : refused (t .refusal) ≡ taken = sym (if-false _ _ _ h) ∙ e in (cc, cc))
 
 module _ (L : Layout) (stamps : List ℕ) where
   -- a step of a world, and the world after it

@@ -21,10 +21,12 @@ use Rattle.machine.specs.declared.state.Visit.the-variants.{Free, Held}
 use Rattle.machine.specs.Registers.{pc, sr}
 use Rattle.machine.specs.Time.{pass}
 use Rattle.machine.specs.State.{World, isHeld}
-use Rattle.machine.specs.Judge.{acts}
+use Rattle.machine.specs.declared.judge.Judged.the-variants.{Acts}
 use Rattle.machine.specs.Step.{executed}
 use Rattle.machine.specs.Run.{Move}
-use Rattle.machine.specs.Calls.{Verdict, taken, refused, verdict, startTests, startAnswered, startCall}
+use Rattle.machine.specs.declared.verdict.Verdict.{Verdict}
+use Rattle.machine.specs.declared.verdict.Verdict.the-variants.{Taken as taken, Refused as refused}
+use Rattle.machine.specs.Calls.{verdict, startTests, startAnswered, startCall}
 use Rattle.machine.specs.Laws.{TwelveInside, TwelveInReturn}
 use Rattle.machine.proofs.JudgeLaws.{acts-unheld}
 use Rattle.machine.proofs.TwelveLaws.{twelve-inside, twelve-in-return}
@@ -104,10 +106,10 @@ duration L stamps mem calls us v later e made run h f =
 -- the two halves of the twelve-cycle law, of one step
 abbrev Soon : Layout → List ℕ → ℕ → Move → Type 0
 Soon L stamps s v =
-    ((i : Instruction) → inside L (pc (v .before .machine .registers)) ≡ true → judgedBefore L v ≡ acts i
+    ((i : Instruction) → inside L (pc (v .before .machine .registers)) ≡ true → judgedBefore L v ≡ Acts i
     → gie (sr (v .before .machine .registers)) ≡ true
     → executed L stamps (v .before .machine) (v .before .memory) i .time .slot ≡ At s → Served s v)
-    × ((previous age : ℕ) → v .before .machine .visit ≡ Held previous age → judgedBefore L v ≡ acts Reti
+    × ((previous age : ℕ) → v .before .machine .visit ≡ Held previous age → judgedBefore L v ≡ Acts Reti
     → pass stamps (cyclesOf Reti) (v .before .machine .time) .slot ≡ Never
     → pass stamps age (pass stamps (cyclesOf Reti) (v .before .machine .time)) .slot ≡ At s → Served s v)
 

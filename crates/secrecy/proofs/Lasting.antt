@@ -19,7 +19,7 @@ use Rattle.machine.specs.Registers.{pc}
 use Rattle.machine.specs.Outcome.{isReset}
 use Rattle.machine.specs.Time.{pass, emptied}
 use Rattle.machine.specs.State.{World, isHeld}
-use Rattle.machine.specs.Judge.{acts}
+use Rattle.machine.specs.declared.judge.Judged.the-variants.{Acts}
 use Rattle.machine.specs.Interrupt.{Step, ageOf, plain, padded, chained, back, reset}
 use Rattle.machine.specs.Step.{executed}
 use Rattle.machine.specs.Run.{Move, stepOf}
@@ -70,13 +70,13 @@ module _ (L : Layout) (stamps : List ℕ) where
         _ (λ t r. (refl, refl, refl)) (λ t r. absurd (true≢false r))
 
     -- the machine after an instruction holds what it held, its cycles later
-    next-after : (i : Instruction) → judged L m mem ≡ acts i
+    next-after : (i : Instruction) → judged L m mem ≡ Acts i
         → (next L stamps m mem i .visit ≡ m .visit) × (next L stamps m mem i .time .clock ≡ m .time .clock + own)
     next-after i e =
         (unfold executed in refl, next-clock L stamps m mem i ∙ ap (λ (n : ℕ). m .time .clock + n) (sym (ap judgedCycles e)))
 
     -- a step of a service routine
-    service-adds : ((i : Instruction) → judged L m mem ≡ acts i → inside L (pc (m .registers)) ≡ false) → (s : Step)
+    service-adds : ((i : Instruction) → judged L m mem ≡ Acts i → inside L (pc (m .registers)) ≡ false) → (s : Step)
         → Way L stamps m mem s → isReset (s .outcome) ≡ false
         → After (m .time .clock + owed (m .visit)) (serviceAdds (s .outcome) own) s
     unfolding reset chained back pass emptied
@@ -96,7 +96,7 @@ module _ (L : Layout) (stamps : List ℕ) where
         (padded-outcome k x mem) (omega (arith, padded-adds k x mem, returned-clock p a, ap owed (u .holding)))
 
     -- an instruction of the module, none being held
-    inside-adds : ((i : Instruction) → judged L m mem ≡ acts i → inside L (pc (m .registers)) ≡ true) → m .visit ≡ Free → (s : Step)
+    inside-adds : ((i : Instruction) → judged L m mem ≡ Acts i → inside L (pc (m .registers)) ≡ true) → m .visit ≡ Free → (s : Step)
         → Way L stamps m mem s → isReset (s .outcome) ≡ false → After (m .time .clock + own) (insideAdds (s .outcome)) s
     inside-adds ins free s (resets c e) r = absurd (true≢false (unfold reset in r))
     inside-adds ins free s (halts i e h) r = let a = next-after i e in omega (arith, a .1, ap owed (a .0 ∙ free))

@@ -13,13 +13,16 @@ use Rattle.layout.specs.Rules.{accepted}
 use Rattle.machine.specs.declared.state.Visit.the-variants.{Free}
 use Rattle.machine.specs.declared.answer.StartAnswer.the-variants.{Made, Refused}
 use Rattle.machine.specs.State.{World, world, start}
-use Rattle.machine.specs.Calls.{Verdict, taken, refused, verdict, startTests, startCall}
+use Rattle.machine.specs.declared.verdict.Verdict.{Verdict}
+use Rattle.machine.specs.declared.verdict.Verdict.the-variants.{Taken as taken, Refused as refused}
+use Rattle.machine.specs.Calls.{verdict, startTests, startCall}
 use Rattle.machine.specs.Laws.{SameOutside}
 use Rattle.secrecy.specs.Calls.{runOf, leftByAll}
 use Rattle.secrecy.specs.Sighting.{sightings}
 use Rattle.secrecy.specs.Visit.{away}
 use Rattle.secrecy.specs.Secrecy.{startWorld, Agree, Secrecy}
-use Rattle.secrecy.proofs.Chain.{first-holds, run-chain, left-by-all, none-run}
+use Rattle.machine.proofs.CallLaws.{first-holds}
+use Rattle.secrecy.proofs.Chain.{run-chain, left-by-all, none-run}
 use Rattle.secrecy.proofs.Ways.{vector-free, start-steady}
 use Rattle.secrecy.proofs.Visiting.{Good, good-away}
 use Rattle.secrecy.proofs.Meet.{none-seen, aways, InStep}

@@ -27,7 +27,7 @@ use Rattle.machine.specs.Registers.{pc, sr, cleared}
 use Rattle.machine.specs.Outcome.{isReset}
 use Rattle.machine.specs.Time.{pass, emptied}
 use Rattle.machine.specs.State.{vector, isHeld, resetAddress, framed, start}
-use Rattle.machine.specs.Judge.{acts}
+use Rattle.machine.specs.declared.judge.Judged.the-variants.{Acts}
 use Rattle.machine.specs.Interrupt.{Step, gives, ageOf, due, reset, plain, padded, chained, back}
 use Rattle.machine.specs.Step.{executed, step}
 use Rattle.machine.specs.Laws.{FramedAtStart, FrameKept, Quiet, QuietAtStart, QuietKept, PaddedByStamp, SameOutside, isResuming, Confined, InsideConfined}
@@ -171,7 +171,7 @@ neither Data o c = refl
 
 module _ (L : Layout) (fit : accepted L ≡ true) (stamps : List ℕ) (m : Machine) (mem : List ℕ) where
   -- in code or data only code
-  pub acting-inside : (i : Instruction) → outside L (pc (m .registers)) ≡ false → judged L m mem ≡ acts i
+  pub acting-inside : (i : Instruction) → outside L (pc (m .registers)) ≡ false → judged L m mem ≡ Acts i
       → inside L (pc (m .registers)) ≡ true
   unfolding inside outside
   acting-inside i o e =
@@ -179,27 +179,27 @@ module _ (L : Layout) (fit : accepted L ≡ true) (stamps : List ℕ) (m : Machi
       (λ h. absurd (true≢false (sym (acts-executable L _ _ mem _ i e) ∙ data-not-executed L (m .previous) _ (neither _ o h))))
 
   -- outside, or while a visit is held, nothing inside
-  pub acting-outside : outside L (pc (m .registers)) ≡ true → (i : Instruction) → judged L m mem ≡ acts i
+  pub acting-outside : outside L (pc (m .registers)) ≡ true → (i : Instruction) → judged L m mem ≡ Acts i
       → inside L (pc (m .registers)) ≡ false
   acting-outside o i e = outside-not-inside L _ o
 
-  pub acting-held : isHeld (m .visit) ≡ true → (i : Instruction) → judged L m mem ≡ acts i → inside L (pc (m .registers)) ≡ false
+  pub acting-held : isHeld (m .visit) ≡ true → (i : Instruction) → judged L m mem ≡ Acts i → inside L (pc (m .registers)) ≡ false
   acting-held h i e =
       cases (inside L (pc (m .registers)))
       (λ n. absurd (true≢false (sym h ∙ acts-unheld L _ _ mem _ i e n))) (λ n. n)
 
   -- while a visit is held nothing in code or data acts
-  none-held : isHeld (m .visit) ≡ true → outside L (pc (m .registers)) ≡ false → (i : Instruction) → judged L m mem ≡ acts i → ⊥
+  none-held : isHeld (m .visit) ≡ true → outside L (pc (m .registers)) ≡ false → (i : Instruction) → judged L m mem ≡ Acts i → ⊥
   none-held h o i e = true≢false (sym (acting-inside i o e) ∙ acting-held h i e)
 
   -- from elsewhere nothing in code or data acts but the entry
   none-away : inside L (m .previous) ≡ false → outside L (pc (m .registers)) ≡ false → (pc (m .registers) ≡ entry L → ⊥)
-      → (i : Instruction) → judged L m mem ≡ acts i → ⊥
+      → (i : Instruction) → judged L m mem ≡ Acts i → ⊥
   none-away n o not-entry i e = not-entry (entered-at-entry L _ _ n o (acts-executable L _ _ mem _ i e))
 
   -- ---- the steps
 
-  reset-falls : (c : Cause) → Fallen L stamps m mem (reset L stamps c m mem)
+  reset-falls : (c : Cause) → Fallen L stamps m mem (reset stamps c m mem)
   unfolding reset
   reset-falls c =
       record {
@@ -212,7 +212,7 @@ module _ (L : Layout) (fit : accepted L ≡ true) (stamps : List ℕ) (m : Machi
         outcome = refl;
       }
 
-  falls : ((i : Instruction) → judged L m mem ≡ acts i → ⊥) → (s : Step) → Way L stamps m mem s → Fallen L stamps m mem s
+  falls : ((i : Instruction) → judged L m mem ≡ Acts i → ⊥) → (s : Step) → Way L stamps m mem s → Fallen L stamps m mem s
   falls none s (resets c e) = reset-falls c
   falls none s (halts i e h) = absurd (none i e)
   falls none s (runs i r d) = absurd (none i (r .acting))
@@ -228,7 +228,7 @@ module _ (L : Layout) (fit : accepted L ≡ true) (stamps : List ℕ) (m : Machi
       choose (Service L stamps m mem) _ (λ e. kept h (vector-free L fit) refl refl) (λ e. fell refl (vector-free L fit) refl refl)
 
   module _ (steady : Steady L m)
-      (elsewhere : (i : Instruction) → judged L m mem ≡ acts i → inside L (pc (m .registers)) ≡ false) where
+      (elsewhere : (i : Instruction) → judged L m mem ≡ Acts i → inside L (pc (m .registers)) ≡ false) where
     service-of : (s : Step) → Way L stamps m mem s → Service L stamps m mem s
     unfolding reset executed chained padded back
     service-of s (resets c e) = fell refl (vector-free L fit) refl refl
@@ -250,7 +250,7 @@ module _ (L : Layout) (fit : accepted L ≡ true) (stamps : List ℕ) (m : Machi
 
   module _ (steady : Steady L m) (running : m .halted ≡ false) (free : m .visit ≡ Free)
       (o : outside L (pc (m .registers)) ≡ false) where
-    confined : (i : Instruction) → judged L m mem ≡ acts i → Confined L stamps m mem i
+    confined : (i : Instruction) → judged L m mem ≡ Acts i → Confined L stamps m mem i
     unfolding InsideConfined
     confined i e = inside-confined L stamps m mem i fit (acting-inside i o e) free e
 

@@ -4,7 +4,9 @@ use mathlib.Core.List.{List, [], _∷_, _++_}
 use Rattle.layout.specs.declared.sections.Layout.{Layout}
 use Rattle.machine.specs.State.{World, world}
 use Rattle.machine.specs.Run.{Move, moves}
-use Rattle.machine.specs.Calls.{Verdict, taken, refused, verdict, stepTests, runTests, Called, stepCall, runCall}
+use Rattle.machine.specs.declared.verdict.Verdict.{Verdict}
+use Rattle.machine.specs.declared.verdict.Verdict.the-variants.{Taken as taken, Refused as refused}
+use Rattle.machine.specs.Calls.{verdict, stepTests, runTests, Called, stepCall, runCall}
 
 -- a call on the machine and memory that the last one left: a step, or a run with a budget
 pub data Call : Type 0 where

@@ -22,7 +22,9 @@ use Rattle.machine.specs.Registers.{pc, sr}
 use Rattle.machine.specs.Outcome.{isReset}
 use Rattle.machine.specs.Time.{pass}
 use Rattle.machine.specs.State.{World, isHeld}
-use Rattle.machine.specs.Judge.{Judged, acts, judge}
+use Rattle.machine.specs.declared.judge.Judged.{Judged}
+use Rattle.machine.specs.declared.judge.Judged.the-variants.{Acts}
+use Rattle.machine.specs.Judge.{judge}
 use Rattle.machine.specs.Interrupt.{Step}
 use Rattle.machine.specs.Step.{executed}
 use Rattle.machine.specs.Run.{Move}
@@ -94,9 +96,9 @@ unfoldable pub Twelve : Type 0
 Twelve =
     (L : Layout) (stamps mem : List ℕ) (calls : List Call) (earlier : List Move) (v : Move) (later : List Move) (s : ℕ)
     → startCall mem .answer ≡ Made → runOf L stamps (startWorld mem) calls ≡ earlier ++ (v ∷ later)
-    → ((i : Instruction) → inside L (pc (v .before .machine .registers)) ≡ true → judgedBefore L v ≡ acts i
+    → ((i : Instruction) → inside L (pc (v .before .machine .registers)) ≡ true → judgedBefore L v ≡ Acts i
     → gie (sr (v .before .machine .registers)) ≡ true
     → executed L stamps (v .before .machine) (v .before .memory) i .time .slot ≡ At s → Served s v)
-    × ((previous age : ℕ) → v .before .machine .visit ≡ Held previous age → judgedBefore L v ≡ acts Reti
+    × ((previous age : ℕ) → v .before .machine .visit ≡ Held previous age → judgedBefore L v ≡ Acts Reti
     → pass stamps (cyclesOf Reti) (v .before .machine .time) .slot ≡ Never
     → pass stamps age (pass stamps (cyclesOf Reti) (v .before .machine .time)) .slot ≡ At s → Served s v)

@@ -12,7 +12,9 @@ use Rattle.machine.specs.declared.state.Machine.{Machine}
 use Rattle.machine.specs.Registers.{pc}
 use Rattle.machine.specs.Outcome.{isReset}
 use Rattle.machine.specs.State.{World, isHeld}
-use Rattle.machine.specs.Judge.{Judged, faulty, acts, judge}
+use Rattle.machine.specs.declared.judge.Judged.{Judged}
+use Rattle.machine.specs.declared.judge.Judged.the-variants.{Faulty, Acts}
+use Rattle.machine.specs.Judge.{judge}
 use Rattle.machine.specs.Interrupt.{Step}
 use Rattle.machine.specs.Run.{Move}
 use Rattle.secrecy.specs.Sighting.{beginsOutside}
@@ -45,8 +47,8 @@ pub data Phase : Type 0 where
 
 -- what the judgement of a step says of its own cycles: the instruction's, waits left out; 4 for a reset
 abbrev pub judgedCycles : Judged → ℕ
-judgedCycles (faulty c) = 4
-judgedCycles (acts i) = cyclesOf i
+judgedCycles (Faulty c) = 4
+judgedCycles (Acts i) = cyclesOf i
 
 -- the own cycles of a step
 abbrev pub ownCycles : Layout → Move → ℕ

@@ -1,0 +1,113 @@
+-- What each turn of a run's loop keeps: what is left to do from here lands where the whole run lands. Assumes nothing.
+use mathlib.Core.Path.{_≡_, refl, sym, _∙_, ap}
+use mathlib.Core.Bool.{true, false}
+use mathlib.Core.List.{List}
+use Prim.Native.Nat.{ℕ, zero, suc, _+_, _-_, _≤_, _<_}
+use native.Mathlib.Omega.{arith}
+use lib.ListN.{length}
+use borrow.Author.Tests.{lt-ltb, le-ltb}
+use Rattle.base.proofs.Tests.{if-true, if-false}
+use Rattle.layout.specs.declared.sections.Layout.{Layout}
+use Rattle.machine.specs.declared.state.Machine.{Machine}
+use Rattle.machine.specs.declared.answer.End.{End}
+use Rattle.machine.specs.declared.answer.End.the-variants.{Halted, Clock, Spent}
+use Rattle.machine.specs.declared.interrupt.Moved.{Moved}
+use Rattle.machine.specs.State.{World, world}
+use Rattle.machine.specs.Interrupt.{Step, moved}
+use Rattle.machine.specs.Run.{lastClock, goes, stops, ending, Stop, worldAfter, stepOf, runFrom, run, stopOr}
+use Rattle.machine.specs.Place.{Passed, RightPlace, Ready}
+use Rattle.machine.specs.Calls.{timetable}
+use Rattle.machine.specs.Laws.{LengthKept}
+use Rattle.machine.proofs.PlaceLaws.{passed-later}
+use Rattle.machine.proofs.CycleLaws.{clock-rises}
+use Rattle.machine.proofs.TouchLaws.{length-kept}
+
+-- why the loop leaves, and where it does not
+pub ending-halted : (m : Machine) → m .halted ≡ true → ending m ≡ stops Halted
+unfolding ending
+ending-halted m h = if-true _ _ _ h
+
+pub ending-clock : (m : Machine) → m .halted ≡ false → lastClock < m .time .clock → ending m ≡ stops Clock
+unfolding ending
+ending-clock m h k = if-false _ _ _ h ∙ if-true _ _ _ (lt-ltb _ _ k)
+
+pub ending-goes : (m : Machine) → m .halted ≡ false → m .time .clock ≤ lastClock → ending m ≡ goes
+unfolding ending
+ending-goes m h k = if-false _ _ _ h ∙ if-false _ _ _ (le-ltb _ _ k)
+
+-- the world that a step hands back
+pub world-by : {s : Step} {r : Moved} {bytes : List ℕ} → r ≡ moved s → bytes ≡ s .memory → world (r .machine) bytes ≡ worldAfter s
+world-by h k = rw (h, k)
+
+module _ (L : Layout) (stamps : List ℕ) where
+  -- a run that has made n steps of its budget and is at this world and place
+  pub record Turning (budget : ℕ) (from w : World) (n place : ℕ) : Type 0 where
+    pub size : length (w .memory) ≡ 65536
+    pub within : n ≤ budget
+    pub place-passed : Passed stamps (w .machine .time .clock) place
+    pub lands : run L stamps budget from ≡ runFrom L stamps n (budget - n) w
+
+  pub turning-first : (budget : ℕ) (w : World) (place : ℕ) → length (w .memory) ≡ 65536
+      → RightPlace stamps (w .machine .time .clock) place → Turning budget w w 0 place
+  unfolding run
+  turning-first budget w place h p =
+      let e : budget - 0 ≡ budget = omega arith in
+      record { size = h; within = omega arith; place-passed = p .passed; lands = rw e }
+
+  module _ (budget : ℕ) (from w : World) (n place : ℕ) (t : Turning budget from w n place) where
+    -- a turn that is not the last: n steps are fewer than the budget
+    turned : (k : ℕ) → budget - n ≡ suc k → ending (w .machine) ≡ goes
+        → runFrom L stamps n (budget - n) w ≡ runFrom L stamps (n + 1) k (worldAfter (stepOf L stamps w))
+    unfolding runFrom
+    turned k e g = rw e (ap (stopOr L stamps n w _) g)
+
+    pub turning-next : (n ≡ budget → ⊥) → w .machine .halted ≡ false → w .machine .time .clock ≤ lastClock
+        → (next : World) → next ≡ worldAfter (stepOf L stamps w) → (further : ℕ)
+        → RightPlace stamps (next .machine .time .clock) further → Turning budget from next (n + 1) further
+    unfolding LengthKept
+    turning-next ne h k next e further p =
+        let i = t .within in
+        let s : budget - n ≡ suc (budget - (n + 1)) = omega arith in
+        record {
+          size = ap (λ (u : World). length (u .memory)) e ∙ length-kept L stamps (w .machine) (w .memory) ∙ t .size;
+          within = omega arith;
+          place-passed = p .passed;
+          lands = t .lands ∙ turned _ s (ending-goes _ h k)
+              ∙ ap (runFrom L stamps (n + 1) (budget - (n + 1))) (sym e);
+        }
+
+    -- a machine that stops, whatever is left
+    stopping : (left : ℕ) (e : End) → ending (w .machine) ≡ stops e
+        → runFrom L stamps n left w ≡ record { machine = w .machine; memory = w .memory; end = e; steps = n }
+    unfolding runFrom
+    stopping zero e g = ap (stopOr L stamps n w _) g
+    stopping (suc left) e g = ap (stopOr L stamps n w _) g
+
+    pub turning-stops : (e : End) → ending (w .machine) ≡ stops e
+        → run L stamps budget from ≡ record { machine = w .machine; memory = w .memory; end = e; steps = n }
+    turning-stops e g = t .lands ∙ stopping _ e g
+
+    -- a budget that is spent
+    spending : (left : ℕ) → left ≡ 0 → ending (w .machine) ≡ goes
+        → runFrom L stamps n left w ≡ record { machine = w .machine; memory = w .memory; end = Spent; steps = n }
+    unfolding runFrom
+    spending left e g = rw e (ap (stopOr L stamps n w _) g)
+
+    pub turning-spent : n ≡ budget → w .machine .halted ≡ false → w .machine .time .clock ≤ lastClock
+        → run L stamps budget from ≡ record { machine = w .machine; memory = w .memory; end = Spent; steps = n }
+    turning-spent e h k = t .lands ∙ spending _ (omega arith) (ending-goes _ h k)
+
+    -- what a step asks for
+    pub turning-ready : timetable stamps ≡ true → w .machine .time .clock ≤ lastClock
+        → Ready stamps (w .machine .time .clock) place 300
+    turning-ready h k = record { timed = h; passed = t .place-passed; room = omega arith }
+
+    -- and what finding the next place asks for
+    pub turning-passed : w .machine .halted ≡ false → (clock : ℕ) → clock ≡ stepOf L stamps w .machine .time .clock
+        → Passed stamps clock place
+    turning-passed h clock e =
+        let g = clock-rises L stamps (w .machine) (w .memory) h in
+        record {
+          fits = t .place-passed .fits;
+          gone = λ i j. let o = t .place-passed .gone i j in omega arith;
+        }

@@ -1,0 +1,12 @@
+use borrow.Author.Needs.{needs}
+use Rattle.machine.proofs.interrupt.fresh_machine.Statement.{statement}
+use Rattle.machine.proofs.interrupt.fresh_machine.Tie as tie
+
+zero-registers-requires : tie.Need-zero-registers-requires
+zero-registers-requires c κs = search needs
+
+returns : tie.Need-returns
+returns c = simp (c .zero-registers .ensures)
+
+pub fresh-machine-spec : {M : Type 1} → statement M
+fresh-machine-spec = tie.close (tie.spec zero-registers-requires returns)

@@ -1,0 +1,59 @@
+use Rattle.machine.specs.Interrupt.{padded}
+use native.Mathlib.Omega.{arith}
+use Rattle.machine.specs.Time.{pass, emptied}
+use Rattle.machine.proofs.PlaceLaws.{ready-later}
+use borrow.Author.Needs.{needs}
+use Rattle.machine.proofs.interrupt.padded.Statement.{statement}
+use Rattle.machine.proofs.interrupt.padded.Tie as tie
+
+age-of-requires : tie.Need-age-of-requires
+age-of-requires c κs = search needs
+
+sub-wait : tie.Need-sub-wait
+sub-wait c = search needs
+
+cast-wait : tie.Need-cast-wait
+cast-wait c = search needs
+
+wait-requires : tie.Need-wait-requires
+wait-requires c κs = search needs
+
+emptied-requires : tie.Need-emptied-requires
+emptied-requires c κs = search needs
+
+wait-requires-2 : tie.Need-wait-requires-2
+unfolding emptied pass
+wait-requires-2 c κs =
+    rw (c .emptied .ensures, c .before .wait .ensures)
+    (ready-later (c .before .before .before .before .before .before .pre) _ _ (omega arith) (omega arith))
+
+cleared-registers-requires : tie.Need-cleared-registers-requires
+cleared-registers-requires c κs = search needs
+
+serving-machine-requires : tie.Need-serving-machine-requires
+serving-machine-requires c κs = search needs
+
+returns : tie.Need-returns
+unfolding padded
+returns c = simp (
+  c .serving-machine .ensures,
+  c .before .cleared-registers .ensures,
+  c .before .before .wait2 .ensures,
+  c .before .before .before .emptied .ensures,
+  c .before .before .before .before .wait .ensures,
+  c .before .before .before .before .before .age-of .ensures .0,
+)
+
+pub padded-spec : {M : Type 1} → statement M
+padded-spec =
+    tie.close
+    (tie.spec
+    age-of-requires
+    sub-wait
+    cast-wait
+    wait-requires
+    emptied-requires
+    wait-requires-2
+    cleared-registers-requires
+    serving-machine-requires
+    returns)

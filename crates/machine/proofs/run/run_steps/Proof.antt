@@ -1,0 +1,99 @@
+use mathlib.Core.Path.{sym, _∙_, ap}
+use Prim.Native.Nat.{_-_}
+use native.Mathlib.Omega.{arith}
+use Rattle.machine.specs.declared.answer.End.the-variants.{Halted, Clock}
+use Rattle.machine.specs.declared.interrupt.Moved.{Moved}
+use Rattle.machine.specs.State.{world}
+use Rattle.machine.specs.Run.{Stop}
+use Rattle.machine.specs.Calls.{stopped}
+use Rattle.machine.proofs.Turns.{Turning, world-by, ending-halted, ending-clock, turning-first, turning-ready, turning-passed, turning-next, turning-stops, turning-spent}
+use Rattle.machine.proofs.run.run_steps.Statement.{statement}
+use Rattle.machine.proofs.run.run_steps.Tie as tie
+
+abbrev Inv-loop : tie.InvT-loop
+Inv-loop mem₀ layout stamps budget current₀ place₀ steps₀ mem current place steps =
+    Turning layout stamps budget (world current₀ mem₀) (world current mem) steps place
+
+abbrev μ-loop : tie.MeasureT-loop
+μ-loop mem₀ layout stamps budget current₀ place₀ steps₀ mem current place steps = budget - steps
+
+first-place-requires : tie.Need-first-place-requires Inv-loop μ-loop
+first-place-requires c κs = c .before .before .pre .1
+
+loop-holds : tie.Need-loop-holds Inv-loop μ-loop
+loop-holds c = turning-first _ _ _ _ _ (c .before .before .before .pre .0) (c .first-place .ensures)
+
+take-step-requires : tie.Need-take-step-requires Inv-loop μ-loop
+take-step-requires c κs =
+    let l = c .before .before .before .before .before .loop in
+    (l .inv .size, turning-ready _ _ _ _ _ _ _ (l .inv) (c .before .before .before .before .before .before .before .before .before .pre .1) (c .before .before .if2 .left))
+
+advance-requires : tie.Need-advance-requires Inv-loop μ-loop
+advance-requires c κs =
+    let l = c .before .before .before .before .before .before .before .before .before .loop in
+    let h = ap (λ (s : Moved). s .machine .time .clock) (c .before .before .before .take-step .ensures .0) in
+    (c .before .before .before .before .before .before .before .before .before .before .before .before .before .pre .1, turning-passed _ _ _ _ _ _ _ (l .inv) (c .before .before .before .before .before .before .before .before .if1 .left) _ h)
+
+add-steps : tie.Need-add-steps Inv-loop μ-loop
+add-steps c =
+    let i = c .before .before .before .before .before .before .before .before .before .before .loop .inv .within in
+    omega (arith, c .before .before .before .before .before .before .if3 .left, c .before .before .before .before .before .before .before .before .before .before .before .before .before .before .fits .budget .fits)
+
+loop-less : tie.Need-loop-less Inv-loop μ-loop
+loop-less c =
+    let i = c .before .before .before .before .before .before .before .before .before .before .loop .inv .within in
+    omega (arith, c .before .before .before .before .before .before .if3 .left)
+
+loop-again : tie.Need-loop-again Inv-loop μ-loop
+loop-again c =
+    let l = c .before .before .before .before .before .before .before .before .before .before .loop in
+    let e = c .before .before .before .before .take-step .ensures in
+    turning-next _ _ _ _ _ _ _ (l .inv) (c .before .before .before .before .before .before .if3 .left) (c .before .before .before .before .before .before .before .before .before .if1 .left) (c .before .before .before .before .before .before .before .if2 .left) _
+    (world-by (e .0) (e .1)) _ (c .advance .ensures)
+
+same-length : tie.Need-same-length Inv-loop μ-loop
+same-length c = c .before .loop .inv .size ∙ sym (c .before .before .before .before .before .pre .0)
+
+returns : tie.Need-returns Inv-loop μ-loop
+returns c =
+    let l = c .before .loop in
+    let o = turning-stops _ _ _ _ _ _ _ (l .inv) Halted (ending-halted _ (c .if1 .taken)) in
+    (sym (ap stopped o), sym (ap (λ (s : Stop). s .memory) o))
+
+same-length-2 : tie.Need-same-length-2 Inv-loop μ-loop
+same-length-2 c = c .before .before .before .loop .inv .size ∙ sym (c .before .before .before .before .before .before .before .pre .0)
+
+returns-2 : tie.Need-returns-2 Inv-loop μ-loop
+returns-2 c =
+    let l = c .before .before .before .loop in
+    let o = turning-stops _ _ _ _ _ _ _ (l .inv) Clock (ending-clock _ (c .before .before .if1 .left) (c .if2 .taken)) in
+    (sym (ap stopped o), sym (ap (λ (s : Stop). s .memory) o))
+
+same-length-3 : tie.Need-same-length-3 Inv-loop μ-loop
+same-length-3 c = c .before .before .before .before .loop .inv .size ∙ sym (c .before .before .before .before .before .before .before .before .pre .0)
+
+returns-3 : tie.Need-returns-3 Inv-loop μ-loop
+returns-3 c =
+    let l = c .before .before .before .before .loop in
+    let o = turning-spent _ _ _ _ _ _ _ (l .inv) (c .if3 .taken) (c .before .before .before .if1 .left) (c .before .if2 .left) in
+    (sym (ap stopped o), sym (ap (λ (s : Stop). s .memory) o))
+
+pub run-steps-spec : {M : Type 1} → statement M
+run-steps-spec =
+    tie.close
+    (tie.spec
+    Inv-loop
+    μ-loop
+    first-place-requires
+    loop-holds
+    take-step-requires
+    advance-requires
+    add-steps
+    loop-less
+    loop-again
+    same-length
+    returns
+    same-length-2
+    returns-2
+    same-length-3
+    returns-3)
