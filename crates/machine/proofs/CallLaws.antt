@@ -23,9 +23,9 @@ use Rattle.machine.specs.declared.interrupt.Moved.{Moved}
 use Rattle.machine.specs.Memory.{byteAt, wordAt}
 use Rattle.machine.specs.Registers.{cleared}
 use Rattle.machine.specs.Time.{startTime}
-use Rattle.machine.specs.State.{World, resetAddress, fresh, start}
+use Rattle.machine.specs.State.{World, world, resetAddress, fresh, start}
 use Rattle.machine.specs.Run.{lastClock, stepOf, run}
-use Rattle.machine.specs.Calls.{wholeMemory, timetable, Test, verdict, startTests, stepTests, runTests, stepAnswered, runAnswered, startCall, stepCall, runCall, startRefusal, stepRefusal, runRefusal, refusedBy, started, stepped, ran, stopped}
+use Rattle.machine.specs.Calls.{wholeMemory, timetable, Test, verdict, startTests, stepTests, runTests, stepAnswered, runAnswered, startCall, stepCall, runCall, startRefusal, stepRefusal, runRefusal, refusedBy, Untouched, started, stepped, ran, stopped}
 use Rattle.machine.proofs.Handed.{Handed, handed}
 
 -- where all tests hold, the first does and the others do
@@ -93,16 +93,19 @@ module _ (L : Layout) (stamps : List ℕ) where
   module _ (w : World) where
     pub step-refused : (r : Refusal) → verdict (runTests L stamps 0 w) ≡ refused r
         → (_≡_ {A = Stepped} (record { machine = w .machine; answer = NotStepped r }) (stepped (stepCall L stamps w)))
-        × ((w .memory ≡ stepCall L stamps w .memory) × (refusalNumber r ≡ refusedBy (verdict (stepTests L stamps w))))
-    step-refused r e = let s = step-call w _ e in let v = step-judged w _ e in (rw s, (rw s, rw v))
+        × ((w .memory ≡ stepCall L stamps w .memory)
+        × ((refusalNumber r ≡ refusedBy (verdict (stepTests L stamps w)))
+        × Untouched (refusalNumber r) w w))
+    step-refused r e = let s = step-call w _ e in let v = step-judged w _ e in (rw s, (rw s, (rw v, λ n. (refl, refl))))
 
     pub step-taken : verdict (runTests L stamps 0 w) ≡ taken → (m : Moved) (bytes : List ℕ) → Handed m bytes (stepOf L stamps w)
         → (_≡_ {A = Stepped} (record { machine = m .machine; answer = HasStepped (m .outcome) }) (stepped (stepCall L stamps w)))
-        × ((bytes ≡ stepCall L stamps w .memory) × (0 ≡ refusedBy (verdict (stepTests L stamps w))))
+        × ((bytes ≡ stepCall L stamps w .memory)
+        × ((0 ≡ refusedBy (verdict (stepTests L stamps w))) × Untouched 0 w (world (m .machine) bytes)))
     step-taken e m bytes h =
         let s = step-call w _ e in
         let v = step-judged w _ e in
-        (rw (s, h .0), (rw s (h .1), rw v))
+        (rw (s, h .0), (rw s (h .1), (rw v, λ n. absurd (n refl))))
 
     module _ (budget : ℕ) where
       run-call : (v : Verdict) → verdict (runTests L stamps budget w) ≡ v
@@ -113,14 +116,16 @@ module _ (L : Layout) (stamps : List ℕ) where
       pub run-refused : (r : Refusal) → verdict (runTests L stamps budget w) ≡ refused r
           → (_≡_ {A = Ran} (record { machine = w .machine; answer = NotRun r }) (ran (runCall L stamps budget w)))
           × ((w .memory ≡ runCall L stamps budget w .memory)
-          × (refusalNumber r ≡ refusedBy (verdict (runTests L stamps budget w))))
-      run-refused r e = let s = run-call _ e in (rw s, (rw s, rw e))
+          × ((refusalNumber r ≡ refusedBy (verdict (runTests L stamps budget w)))
+          × Untouched (refusalNumber r) w w))
+      run-refused r e = let s = run-call _ e in (rw s, (rw s, (rw e, λ n. (refl, refl))))
 
       pub run-taken : verdict (runTests L stamps budget w) ≡ taken → (m : Ran) (bytes : List ℕ)
           → (m ≡ stopped (run L stamps budget w)) × (bytes ≡ run L stamps budget w .memory)
           → (m ≡ ran (runCall L stamps budget w))
           × ((bytes ≡ runCall L stamps budget w .memory)
-          × (runRefusal (m .answer) ≡ refusedBy (verdict (runTests L stamps budget w))))
+          × ((runRefusal (m .answer) ≡ refusedBy (verdict (runTests L stamps budget w)))
+          × Untouched (runRefusal (m .answer)) w (world (m .machine) bytes)))
       run-taken e m bytes h =
           let s = run-call _ e in
-          (rw s (h .0), (rw s (h .1), rw (e, h .0)))
+          (rw s (h .0), (rw s (h .1), (rw (e, h .0), λ n. absurd (n (ap (λ (x : Ran). runRefusal (x .answer)) (h .0))))))

@@ -1,5 +1,6 @@
 -- What callers get: the first refusal in order, with the machine and memory as they came; or the definition's result.
 use Prim.Native.Nat.{ℕ}
+use mathlib.Core.Path.{_≡_}
 use mathlib.Core.Bool.{Bool, true, false, not}
 use mathlib.Core.List.{List, [], _∷_}
 use lib.Dec.{leb, ltb, eqb}
@@ -134,6 +135,10 @@ runRefusal (NotRun r) = refusalNumber r
 abbrev pub refusedBy : Verdict → ℕ
 refusedBy taken = 0
 refusedBy (refused r) = refusalNumber r
+
+-- a refusal alters no byte and hands the machine back as it came
+abbrev pub Untouched : ℕ → World → World → Type 0
+Untouched number before after = (number ≡ 0 → ⊥) → (after .machine ≡ before .machine) × (after .memory ≡ before .memory)
 
 -- what code hands back of a call: memory it writes where it lies
 abbrev pub started : Called StartAnswer → Started

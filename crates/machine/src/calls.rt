@@ -1,7 +1,7 @@
 // What callers can do: start, step, run. Whatever they hand in, they get the definition's answer or one numbered refusal.
 ghost use mathlib.Core.Path.{_≡_};
 ghost use Rattle.machine.specs.State.{world};
-ghost use Rattle.machine.specs.Calls.{startTests, stepTests, runTests, verdict, refusedBy, startCall, stepCall, runCall, startRefusal, stepRefusal, runRefusal, started, stepped, ran};
+ghost use Rattle.machine.specs.Calls.{startTests, stepTests, runTests, verdict, refusedBy, startCall, stepCall, runCall, startRefusal, stepRefusal, runRefusal, Untouched, started, stepped, ran};
 use crate::answer::Ran;
 use crate::answer::RunAnswer;
 use crate::answer::StartAnswer;
@@ -45,6 +45,7 @@ impl Machine {
         ensures answer { λ r. ⌜ r ≡ stepped (stepCall layout (now (stamps .entry)) (world self (now (mem .entry)))) ⌝ }
         ensures memory { λ _. ⌜ now (mem .exit) ≡ stepCall layout (now (stamps .entry)) (world self (now (mem .entry))) .memory ⌝ }
         ensures number { λ r. ⌜ stepRefusal (r .answer) ≡ refusedBy (verdict (stepTests layout (now (stamps .entry)) (world self (now (mem .entry))))) ⌝ }
+        ensures refused { λ r. ⌜ Untouched (stepRefusal (r .answer)) (world self (now (mem .entry))) (world (r .machine) (now (mem .exit))) ⌝ }
     {
         match judge_call(self, mem, layout, stamps, 0) {
             Verdict::Refused(refusal) => Stepped {
@@ -69,6 +70,7 @@ impl Machine {
         ensures answer { λ r. ⌜ r ≡ ran (runCall layout (now (stamps .entry)) budget (world self (now (mem .entry)))) ⌝ }
         ensures memory { λ _. ⌜ now (mem .exit) ≡ runCall layout (now (stamps .entry)) budget (world self (now (mem .entry))) .memory ⌝ }
         ensures number { λ r. ⌜ runRefusal (r .answer) ≡ refusedBy (verdict (runTests layout (now (stamps .entry)) budget (world self (now (mem .entry))))) ⌝ }
+        ensures refused { λ r. ⌜ Untouched (runRefusal (r .answer)) (world self (now (mem .entry))) (world (r .machine) (now (mem .exit))) ⌝ }
     {
         match judge_call(self, mem, layout, stamps, budget) {
             Verdict::Refused(refusal) => Ran {
