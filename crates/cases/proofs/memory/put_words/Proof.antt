@@ -1,0 +1,63 @@
+use Prim.Native.Nat.{_≤_, _-_}
+use mathlib.Core.Path.{_≡_}
+use lib.ListN.{length}
+use borrow.Author.Needs.{needs}
+use Rattle.cases.proofs.memory.put_words.Statement.{statement}
+use Rattle.cases.proofs.memory.put_words.Tie as tie
+
+abbrev Inv-loop : tie.InvT-loop
+Inv-loop mem₀ count fields a₀ i₀ mem a i = (i ≤ 8) × (length mem ≡ length mem₀)
+
+abbrev μ-loop : tie.MeasureT-loop
+μ-loop mem₀ count fields a₀ i₀ mem a i = 8 - i
+
+array-read-a : tie.Need-array-read-a Inv-loop μ-loop
+array-read-a c = search needs
+
+loop-holds : tie.Need-loop-holds Inv-loop μ-loop
+loop-holds c = search needs
+
+mul-put-wanted : tie.Need-mul-put-wanted Inv-loop μ-loop
+mul-put-wanted c = search needs
+
+array-read-put-wanted : tie.Need-array-read-put-wanted Inv-loop μ-loop
+array-read-put-wanted c = search needs
+
+put-wanted-requires : tie.Need-put-wanted-requires Inv-loop μ-loop
+put-wanted-requires c κs = search needs
+
+wrapping-add-u64-requires : tie.Need-wrapping-add-u64-requires Inv-loop μ-loop
+wrapping-add-u64-requires c κs = search needs
+
+add-i : tie.Need-add-i Inv-loop μ-loop
+add-i c = search needs
+
+loop-less : tie.Need-loop-less Inv-loop μ-loop
+loop-less c = search needs
+
+loop-again : tie.Need-loop-again Inv-loop μ-loop
+loop-again c = search needs
+
+same-length : tie.Need-same-length Inv-loop μ-loop
+same-length c = search needs
+
+returns : tie.Need-returns Inv-loop μ-loop
+returns c = search needs
+
+pub put-words-spec : {M : Type 1} → statement M
+put-words-spec =
+    tie.close
+    (tie.spec
+    Inv-loop
+    μ-loop
+    array-read-a
+    loop-holds
+    mul-put-wanted
+    array-read-put-wanted
+    put-wanted-requires
+    wrapping-add-u64-requires
+    add-i
+    loop-less
+    loop-again
+    same-length
+    returns)

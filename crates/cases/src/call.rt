@@ -1,0 +1,119 @@
+// The calls, each with its line of output.
+use crate::print;
+use crate::show;
+use crate::world::World;
+use machine::answer::Outcome;
+use machine::answer::RunAnswer;
+use machine::answer::StartAnswer;
+use machine::answer::StepAnswer;
+use machine::state::Machine;
+
+// What cannot be read or done is answered by a question mark.
+pub fn unknown(w: World) -> World {
+    print::text(b"?\n");
+    w
+}
+
+// The world with another machine.
+fn with_machine(w: World, m: Machine) -> World {
+    World { machine: m, ..w }
+}
+
+// The kind, and for a reset the number of its cause.
+fn show_outcome(o: Outcome) {
+    print::space_letter(o.letter());
+    match o {
+        Outcome::Ran => {}
+        Outcome::Plain => {}
+        Outcome::Padded => {}
+        Outcome::Chained => {}
+        Outcome::Back => {}
+        Outcome::Reset(cause) => print::space_decimal(cause.number() as u64),
+        Outcome::Halted => {}
+    }
+}
+
+// The answer of a step.
+fn show_step(a: StepAnswer) {
+    print::text(b"T");
+    match a {
+        StepAnswer::Made(outcome) => show_outcome(outcome),
+        StepAnswer::Refused(r) => print::refusal(r.number()),
+    }
+}
+
+// The answer of a run: its end and its steps.
+fn show_run(a: RunAnswer) {
+    print::text(b"G");
+    match a {
+        RunAnswer::Made(end, steps) => {
+            print::space_letter(end.letter());
+            print::space_decimal(steps);
+        }
+        RunAnswer::Refused(r) => print::refusal(r.number()),
+    }
+}
+
+// Start: where it is refused, only the answer and the sums are shown, and the machine stays as it was.
+pub fn start(w: World, mem: &[u8]) -> World {
+    let bytes = w.bytes;
+    if mem.len() < bytes {
+        return unknown(w);
+    }
+    let started = Machine::start(&mem[0..bytes]);
+    let next = started.machine;
+    let answer = started.answer;
+    print::text(b"S");
+    match answer {
+        StartAnswer::Made => {
+            print::text(b" ok");
+            show::state(next, mem);
+            with_machine(w, next)
+        }
+        StartAnswer::Refused(r) => {
+            print::refusal(r.number());
+            show::sums(mem);
+            w
+        }
+    }
+}
+
+// Step.
+pub fn step(w: World, mem: &mut [u8], stamps: &[u64]) -> World {
+    let bytes = w.bytes;
+    let count = w.stamps;
+    let m = w.machine;
+    let layout = w.layout;
+    if mem.len() < bytes {
+        return unknown(w);
+    }
+    if stamps.len() < count {
+        return unknown(w);
+    }
+    let stepped = m.step(&mut mem[0..bytes], layout, &stamps[0..count]);
+    let next = stepped.machine;
+    let answer = stepped.answer;
+    show_step(answer);
+    show::state(next, mem);
+    with_machine(w, next)
+}
+
+// Run with a budget.
+pub fn run(w: World, mem: &mut [u8], stamps: &[u64], budget: u64) -> World {
+    let bytes = w.bytes;
+    let count = w.stamps;
+    let m = w.machine;
+    let layout = w.layout;
+    if mem.len() < bytes {
+        return unknown(w);
+    }
+    if stamps.len() < count {
+        return unknown(w);
+    }
+    let ran = m.run(&mut mem[0..bytes], layout, &stamps[0..count], budget);
+    let next = ran.machine;
+    let answer = ran.answer;
+    show_run(answer);
+    show::state(next, mem);
+    with_machine(w, next)
+}

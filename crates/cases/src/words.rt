@@ -1,0 +1,19 @@
+// Numbers of the script as the machine's: their low bits. The script's rules keep what would lose any away.
+
+// A number as a word.
+pub fn word(n: u64) -> u16 {
+    (n % 65536) as u16
+}
+
+// A number as a byte.
+pub fn byte(n: u64) -> u8 {
+    (n % 256) as u8
+}
+
+// The registers with the one of this number set.
+pub fn set(registers: [u16; 16], n: u64, w: u64) -> [u16; 16] {
+    let mut next = registers;
+    let i = (n % 16) as usize;
+    next[i] = word(w);
+    next
+}
