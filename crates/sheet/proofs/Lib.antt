@@ -1,0 +1,4 @@
+pub mod Finding
+pub mod NumberLaws
+pub mod SheetLaws
+pub mod TranscriptLaws

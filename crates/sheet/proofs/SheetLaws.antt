@@ -1,0 +1,237 @@
+-- The lines of a sheet, one at a time: what stands before the first newline is the first line. Assumes nothing.
+use Prim.Native.Nat.{ℕ, suc, _+_, _%_, _≤_, _<_}
+use mathlib.Core.Path.{_≡_, refl, sym, _∙_, ap}
+use mathlib.Core.Bool.{Bool, true, false, true≢false}
+use mathlib.Core.List.{List, [], _∷_}
+use native.Mathlib.Omega.{arith}
+use native.Mathlib.Numerals.{add-one}
+use native.Mathlib.Nat.{add-zero}
+use lib.Dec.{eqb, ltb}
+use lib.ListN.{length, take, drop, set, replicate, length-drop, length-set, length-replicate, drop-of-length-le}
+use lib.Seq.{sets, take-all}
+use borrow.Author.Tests.{ne-eqb, le-leb, ltb-true, ltb-false}
+use Rattle.base.specs.Test.{if_then_else_}
+use Rattle.base.specs.Word.{even}
+use Rattle.base.specs.declared.refusal.Refusal.the-variants.{Line as Unreadable}
+use Rattle.base.proofs.Tests.{cases, if-true, if-false}
+use Rattle.layout.specs.declared.sections.Layout.{Layout}
+use Rattle.machine.specs.Memory.{putWord}
+use Rattle.sheet.specs.declared.line.Said.{Said}
+use Rattle.sheet.specs.declared.line.Said.the-variants.{Layout as Layouts, Word, Stamp, Budget}
+use Rattle.sheet.specs.declared.line.Line.{Line}
+use Rattle.sheet.specs.declared.line.Line.the-variants.{Is, Bad}
+use Rattle.sheet.specs.declared.reader.Answer.{Answer}
+use Rattle.sheet.specs.declared.reader.Answer.the-variants.{Refused}
+use Rattle.sheet.specs.declared.reader.Stage.{Stage}
+use Rattle.sheet.specs.declared.reader.Stage.the-variants.{Goes, Stops}
+use Rattle.sheet.specs.Text.{newline, find, holds, head, rest}
+use Rattle.sheet.specs.Line.{lineOf}
+use Rattle.sheet.specs.Sheet.{led, pieces, noneFollows, nothingFollows, stageOf, onStage, onLine, bodyFrom, firstOf, onFirst, linesAnswer, sheetAnswer, stored, memoryFrom, sheetMemory, stampOf, stampsFrom}
+
+-- ---- pieces
+
+-- what follows a byte that is not the newline
+later : (x : ℕ) (xs : List ℕ) → eqb x newline ≡ false → find (x ∷ xs) newline ≡ suc (find xs newline)
+unfolding find
+later x xs e = if-false _ _ _ e
+
+at-once : (x : ℕ) (xs : List ℕ) → eqb x newline ≡ true → find (x ∷ xs) newline ≡ 0
+unfolding find
+at-once x xs e = if-true _ _ _ e
+
+none-here : find [] newline ≡ 0
+unfolding find
+none-here = refl
+
+-- a text with a newline is its first line and the pieces after it
+pub pieces-here : (s : List ℕ) → find s newline < length s → pieces s ≡ head s newline ∷ pieces (rest s newline)
+unfolding pieces
+pieces-here [] h = absurd (omega (arith, none-here))
+pieces-here (x ∷ xs) h =
+    cases (eqb x newline)
+    (λ e. if-true _ _ _ e ∙ rw (at-once x xs e))
+    (λ e.
+    let f = later x xs e in
+    let g : find xs newline < length xs = omega arith in
+    let k : suc (find xs newline) + 1 ≡ suc (find xs newline + 1) = omega arith in
+    if-false _ _ _ e ∙ rw (pieces-here xs g, f, k))
+
+-- one without is a single piece
+pub pieces-last : (s : List ℕ) → length s ≤ find s newline → pieces s ≡ s ∷ []
+unfolding pieces
+pieces-last [] h = refl
+pieces-last (x ∷ xs) h =
+    cases (eqb x newline)
+    (λ e. let f = at-once x xs e in absurd (omega arith))
+    (λ e.
+    let f = later x xs e in
+    let g : length xs ≤ find xs newline = omega arith in
+    if-false _ _ _ e ∙ rw (pieces-last xs g))
+
+led-filled : (x : ℕ) (ps : List (List ℕ)) → (noneFollows (led x ps) ≡ false) × (nothingFollows (led x ps) ≡ false)
+led-filled x [] = (refl, refl)
+led-filled x (p ∷ ps) = (refl, refl)
+
+-- there is always a piece, and it is empty and the last where the text is empty
+pub pieces-filled : (s : List ℕ) → noneFollows (pieces s) ≡ false
+unfolding pieces
+pieces-filled [] = refl
+pieces-filled (x ∷ xs) =
+    cases (eqb x newline) (λ e. rw (if-true _ ([] ∷ pieces xs) (led x (pieces xs)) e))
+    (λ e. rw (if-false _ ([] ∷ pieces xs) (led x (pieces xs)) e) (led-filled x (pieces xs) .0))
+
+pub pieces-nothing : (s : List ℕ) → nothingFollows (pieces s) ≡ eqb (length s) 0
+unfolding pieces
+pieces-nothing [] = refl
+pieces-nothing (x ∷ xs) =
+    let z : nothingFollows (pieces (x ∷ xs)) ≡ false =
+    cases (eqb x newline) (λ e. rw (if-true _ ([] ∷ pieces xs) (led x (pieces xs)) e) (pieces-filled xs))
+    (λ e. rw (if-false _ ([] ∷ pieces xs) (led x (pieces xs)) e) (led-filled x (pieces xs) .1)) in
+    z ∙ sym (ne-eqb (suc (length xs)) 0 (λ e. omega arith))
+
+-- a line and its newline are left behind
+pub rest-shorter : (s : List ℕ) → find s newline < length s → length (rest s newline) + 1 ≤ length s
+rest-shorter s h = rw (length-drop (find s newline + 1) s) (omega arith)
+
+-- ---- the lines after L
+
+module _ (L : Layout) (n last count : ℕ) (s : List ℕ) where
+  pub body-last : length s ≤ find s newline → bodyFrom L n last count (pieces s) ≡ Refused Unreadable n
+  unfolding bodyFrom if_then_else_
+  body-last h = rw (pieces-last s h)
+
+  module _ (h : find s newline < length s) where
+    body-here : bodyFrom L n last count (pieces s)
+        ≡ onLine n (lineOf (head s newline))
+        (λ said. onStage (stageOf L n last count said (eqb (length (rest s newline)) 0))
+        (λ l c. bodyFrom L (n + 1) l c (pieces (rest s newline))))
+    unfolding bodyFrom
+    body-here =
+        rw (pieces-here s h)
+        (if-false _ _ _ (pieces-filled (rest s newline)) ∙ rw (pieces-nothing (rest s newline)))
+
+    pub body-bad : lineOf (head s newline) ≡ Bad → bodyFrom L n last count (pieces s) ≡ Refused Unreadable n
+    body-bad e = body-here ∙ rw e
+
+    module _ (said : Said) (e : lineOf (head s newline) ≡ Is said) where
+      body-said : bodyFrom L n last count (pieces s)
+          ≡ onStage (stageOf L n last count said (eqb (length (rest s newline)) 0))
+          (λ l c. bodyFrom L (n + 1) l c (pieces (rest s newline)))
+      body-said = body-here ∙ rw e
+
+      pub body-stops : (a : Answer) → stageOf L n last count said (eqb (length (rest s newline)) 0) ≡ Stops a
+          → bodyFrom L n last count (pieces s) ≡ a
+      body-stops a g = body-said ∙ rw g
+
+      pub body-goes : (l c : ℕ) → stageOf L n last count said (eqb (length (rest s newline)) 0) ≡ Goes l c
+          → bodyFrom L n last count (pieces s) ≡ bodyFrom L (n + 1) l c (pieces (rest s newline))
+      body-goes l c g = body-said ∙ rw g
+
+-- ---- the first line
+
+module _ (s : List ℕ) where
+  pub first-last : length s ≤ find s newline → linesAnswer (pieces s) ≡ Refused Unreadable 1
+  unfolding linesAnswer if_then_else_
+  first-last h = rw (pieces-last s h)
+
+  pub first-here : find s newline < length s
+      → linesAnswer (pieces s)
+      ≡ onLine 1 (lineOf (head s newline)) (λ said. onFirst (firstOf said) (λ L. bodyFrom L 2 0 0 (pieces (rest s newline))))
+  unfolding linesAnswer
+  first-here h = rw (pieces-here s h) (if-false _ _ _ (pieces-filled (rest s newline)))
+
+  pub sheet-lines : length s ≤ 32768 → sheetAnswer s ≡ linesAnswer (pieces s)
+  unfolding sheetAnswer
+  sheet-lines h = if-true _ _ _ (le-leb _ _ h)
+
+-- ---- the setup, a line at a time
+
+-- the empty line says nothing
+empty-line : lineOf [] ≡ Bad
+unfolding lineOf find if_then_else_
+empty-line = refl
+
+-- whatever is made of the pieces in order, where an unsaid line makes nothing, is made of the first line and the rest
+module _ {A : Type 0} (make : List (List ℕ) → A → A) (one : List ℕ → A → A)
+    (nil : (a : A) → make [] a ≡ a)
+    (cons : (p : List ℕ) (ps : List (List ℕ)) (a : A) → make (p ∷ ps) a ≡ make ps (one p a))
+    (none : (a : A) → one [] a ≡ a) where
+  made-empty : (a : A) → make ([] ∷ []) a ≡ a
+  made-empty a = cons [] [] a ∙ nil (one [] a) ∙ none a
+
+  pub made-next : (s : List ℕ) (a : A) → make (pieces s) a ≡ make (pieces (rest s newline)) (one (head s newline) a)
+  unfolding pieces
+  made-next s a =
+      cases (ltb (find s newline) (length s))
+      (λ e. rw (pieces-here s (ltb-true _ _ e)) (cons _ _ a))
+      (λ e.
+      let f = ltb-false _ _ e in
+      let g : length s ≤ find s newline + 1 = omega arith in
+      rw (pieces-last s f, take-all (find s newline) s f, drop-of-length-le s g)
+      (cons s [] a ∙ nil (one s a) ∙ sym (made-empty (one s a))))
+
+  pub made-end : (s : List ℕ) (a : A) → length s ≤ 0 → make (pieces s) a ≡ a
+  unfolding pieces
+  made-end [] a h = made-empty a
+  made-end (x ∷ xs) a h = absurd (omega arith)
+
+-- memory
+module _ (s mem : List ℕ) where
+  abbrev memoryMade : List (List ℕ) → List ℕ → List ℕ
+  memoryMade ps mem = memoryFrom mem ps
+
+  pub memory-next : memoryFrom mem (pieces s) ≡ memoryFrom (stored (lineOf (head s newline)) mem) (pieces (rest s newline))
+  unfolding memoryFrom
+  memory-next =
+      made-next memoryMade (λ p m. stored (lineOf p) m) (λ m. refl) (λ p ps m. refl) (λ m. rw empty-line) s mem
+
+  pub memory-end : length s ≤ 0 → memoryFrom mem (pieces s) ≡ mem
+  unfolding memoryFrom
+  memory-end h = made-end memoryMade (λ p m. stored (lineOf p) m) (λ m. refl) (λ p ps m. refl) (λ m. rw empty-line) s mem h
+
+-- lines keep memory's length
+stored-length : (line : Line) (mem : List ℕ) → length (stored line mem) ≡ length mem
+unfolding putWord
+stored-length Bad mem = refl
+stored-length (Is (Layouts L)) mem = refl
+stored-length (Is (Word a w)) mem = length-set (set mem (even a) (w % 256)) _ _ ∙ length-set mem _ _
+stored-length (Is (Stamp s)) mem = refl
+stored-length (Is (Budget b)) mem = refl
+
+memory-length : (ps : List (List ℕ)) (mem : List ℕ) → length (memoryFrom mem ps) ≡ length mem
+unfolding memoryFrom
+memory-length [] mem = refl
+memory-length (p ∷ ps) mem = memory-length ps (stored (lineOf p) mem) ∙ stored-length (lineOf p) mem
+
+pub sheet-memory-length : (s : List ℕ) → length (sheetMemory s) ≡ 65536
+unfolding sheetMemory
+sheet-memory-length s = memory-length (pieces s) (replicate 65536 0) ∙ length-replicate {A = ℕ} 65536 0
+
+-- the rest of a text that is not empty is shorter
+pub rest-less : (s : List ℕ) → 0 < length s → length (rest s newline) < length s
+rest-less s h = rw (length-drop (find s newline + 1) s) (omega arith)
+
+-- the timetable
+pub stamps-next : (s : List ℕ) → stampsFrom (pieces s) ≡ stampOf (lineOf (head s newline)) (stampsFrom (pieces (rest s newline)))
+unfolding stampsFrom pieces
+stamps-next s =
+    cases (ltb (find s newline) (length s))
+    (λ e. rw (pieces-here s (ltb-true _ _ e)))
+    (λ e.
+    let f = ltb-false _ _ e in
+    let g : length s ≤ find s newline + 1 = omega arith in
+    rw (pieces-last s f, take-all (find s newline) s f, drop-of-length-le s g, empty-line))
+
+pub stamps-end : (s : List ℕ) → length s ≤ 0 → stampsFrom (pieces s) ≡ []
+unfolding stampsFrom pieces
+stamps-end [] h = rw empty-line
+stamps-end (x ∷ xs) h = absurd (omega arith)
+
+-- what a line says is put behind what stands there, and the further stamps behind that
+pub stamp-sets : (line : Line) (ss buffer : List ℕ) (i : ℕ)
+    → sets buffer i (stampOf line ss) ≡ sets (sets buffer i (stampOf line [])) (i + length (stampOf line [])) ss
+stamp-sets Bad ss buffer i = rw add-zero
+stamp-sets (Is (Layouts L)) ss buffer i = rw add-zero
+stamp-sets (Is (Word a w)) ss buffer i = rw add-zero
+stamp-sets (Is (Stamp s)) ss buffer i = rw add-one
+stamp-sets (Is (Budget b)) ss buffer i = rw add-zero

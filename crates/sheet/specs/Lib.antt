@@ -1,0 +1,5 @@
+pub mod Text
+pub mod Number
+pub mod Line
+pub mod Sheet
+pub mod Transcript

@@ -1,0 +1,161 @@
+// The reader of a sheet: the setup that it tells, or the first bad line.
+ghost use mathlib.Core.Path.{_≡_};
+ghost use Prim.Native.Nat.{_≤_, _+_};
+ghost use lib.ListN.{length};
+ghost use Rattle.base.specs.Test.{if_then_else_};
+ghost use Rattle.base.specs.declared.refusal.Refusal.the-variants.{Timetable as TIMETABLE, Line as LINE};
+ghost use Rattle.sheet.specs.declared.reader.Answer.the-variants.{Refused as REFUSED};
+ghost use Rattle.sheet.specs.declared.reader.Stage.the-variants.{Goes as GOES, Stops as STOPS};
+ghost use Rattle.sheet.specs.Sheet.{pieces, fitsTimetable, budgetAnswer, stageOf, onStage, bodyFrom, firstOf, sheetAnswer};
+use crate::line::Line;
+use crate::line::Said;
+use crate::line::read_line;
+use crate::text::head;
+use crate::text::holds_byte;
+use crate::text::rest;
+use base::refusal::Refusal;
+use layout::sections::Layout;
+
+// What a sheet sets up: the layout, how many stamps the timetable has, the budget.
+pub struct Setup {
+    pub layout: Layout,
+    pub stamps: u64,
+    pub budget: u64,
+}
+
+// The answer: the setup, or the refusal with its line.
+pub enum Answer {
+    Read(Setup),
+    Refused(Refusal, u64),
+}
+
+// What the first line says: a layout, or anything else.
+pub enum First {
+    Is(Layout),
+    Other,
+}
+
+// After a line: the last stamp and the number of stamps so far, or the answer.
+pub enum Stage {
+    Goes(u64, u64),
+    Stops(Answer),
+}
+
+// A stamp of the timetable: not too many, rising, at most 2^62.
+fn fits_timetable(last: u64, count: u64, stamp: u64) -> bool
+    ensures { λ r. ⌜ r ≡ fitsTimetable last count stamp ⌝ }
+{
+    count < 4096 && (last < stamp && stamp <= 0x4000_0000_0000_0000)
+}
+
+// G at line n: nothing may follow it.
+fn budget_answer(layout: Layout, n: u64, count: u64, budget: u64, last: bool) -> Answer
+    requires { ⌜ n ≤ 65536 ⌝ }
+    ensures { λ r. ⌜ r ≡ budgetAnswer layout n count budget last ⌝ }
+{
+    if budget > 1000000 {
+        return Answer::Refused(Refusal::Distance, n);
+    }
+    if last {
+        return Answer::Read(Setup {
+            layout: layout,
+            stamps: count,
+            budget: budget,
+        });
+    }
+    Answer::Refused(Refusal::Line, n + 1)
+}
+
+// A stamp at line n.
+fn stamp_stage(n: u64, last: u64, count: u64, stamp: u64) -> Stage
+    ensures { λ r. ⌜ r ≡ (if fitsTimetable last count stamp then GOES stamp (count + 1) else STOPS (REFUSED TIMETABLE n)) ⌝ }
+{
+    if fits_timetable(last, count, stamp) {
+        return Stage::Goes(stamp, count + 1);
+    }
+    Stage::Stops(Answer::Refused(Refusal::Timetable, n))
+}
+
+// A line after the first, by what it says.
+fn read_stage(layout: Layout, n: u64, last: u64, count: u64, said: Said, nothing: bool) -> Stage
+    requires { ⌜ n ≤ 65536 ⌝ }
+    ensures { λ r. ⌜ r ≡ stageOf layout n last count said nothing ⌝ }
+{
+    match said {
+        Said::Layout(_) => Stage::Stops(Answer::Refused(Refusal::Line, n)),
+        Said::Word(_, _) => Stage::Goes(last, count),
+        Said::Stamp(s) => stamp_stage(n, last, count, s),
+        Said::Budget(b) => Stage::Stops(budget_answer(layout, n, count, b, nothing)),
+    }
+}
+
+// The answer of a stage that stops.
+fn stopped(stage: Stage) -> Answer
+    ensures { λ r. ⌜ r ≡ onStage stage (λ _. λ _. REFUSED LINE 0) ⌝ }
+{
+    match stage {
+        Stage::Goes(_, _) => Answer::Refused(Refusal::Line, 0),
+        Stage::Stops(answer) => answer,
+    }
+}
+
+// The lines after L. Each line's answer is taken apart, and a bad one leaves with its number.
+fn read_body(layout: Layout, body: &[u8]) -> Answer
+    requires { ⌜ length (now body) ≤ 32768 ⌝ }
+    ensures { λ r. ⌜ r ≡ bodyFrom layout 2 0 0 (pieces (now (body .entry))) ⌝ }
+{
+    let mut left = body;
+    let mut n: u64 = 2;
+    let mut last: u64 = 0;
+    let mut count: u64 = 0;
+    while holds_byte(left, b'\n') {
+        let after = rest(left, b'\n');
+        let Line::Is(said) = read_line(head(left, b'\n')) else {
+            return Answer::Refused(Refusal::Line, n);
+        };
+        let stage = read_stage(layout, n, last, count, said, after.len() == 0);
+        let Stage::Goes(l, c) = stage else {
+            return stopped(stage);
+        };
+        left = after;
+        n += 1;
+        last = l;
+        count = c;
+    }
+    Answer::Refused(Refusal::Line, n)
+}
+
+// What is said, as of the first line.
+fn first_of(said: Said) -> First
+    ensures { λ r. ⌜ r ≡ firstOf said ⌝ }
+{
+    match said {
+        Said::Layout(layout) => First::Is(layout),
+        Said::Word(_, _) => First::Other,
+        Said::Stamp(_) => First::Other,
+        Said::Budget(_) => First::Other,
+    }
+}
+
+// A sheet's answer.
+pub fn read_sheet(sheet: &[u8]) -> Answer
+    ensures { λ r. ⌜ r ≡ sheetAnswer (now (sheet .entry)) ⌝ }
+{
+    if sheet.len() > 32768 {
+        return Answer::Refused(Refusal::Sheet, 0);
+    }
+    if !holds_byte(sheet, b'\n') {
+        return Answer::Refused(Refusal::Line, 1);
+    }
+    let Line::Is(said) = read_line(head(sheet, b'\n')) else {
+        return Answer::Refused(Refusal::Line, 1);
+    };
+    let First::Is(layout) = first_of(said) else {
+        return Answer::Refused(Refusal::Line, 1);
+    };
+    if !layout.accepted() {
+        return Answer::Refused(Refusal::Fence, 1);
+    }
+    let body = rest(sheet, b'\n');
+    read_body(layout, body)
+}

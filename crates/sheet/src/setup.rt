@@ -1,0 +1,113 @@
+// The memory and the timetable that a sheet sets up.
+ghost use mathlib.Core.Path.{_≡_};
+ghost use mathlib.Core.List.{[]};
+ghost use Prim.Native.Nat.{_≤_};
+ghost use lib.ListN.{length, set};
+ghost use lib.Seq.{sets};
+ghost use Rattle.machine.specs.Memory.{putWord};
+ghost use Rattle.sheet.specs.Sheet.{pieces, stored, memoryFrom, sheetMemory, stampOf, stampsFrom, sheetStamps};
+use crate::line::Line;
+use crate::line::Said;
+use crate::line::read_line;
+use crate::text::head;
+use crate::text::rest;
+
+// Puts a word at an address, whose bit 0 is dropped.
+fn put_word(mem: &mut [u8; 65536], a: u16, w: u16)
+    ensures { λ _. ⌜ now (mem .exit) ≡ putWord (now (mem .entry)) a w ⌝ }
+{
+    let e = (a / 2 * 2) as usize;
+    mem[e] = (w % 256) as u8;
+    mem[e + 1] = (w / 256 % 256) as u8;
+}
+
+// What a line puts into memory.
+fn store_line(mem: &mut [u8; 65536], line: Line)
+    ensures { λ _. ⌜ now (mem .exit) ≡ stored line (now (mem .entry)) ⌝ }
+{
+    match line {
+        Line::Bad => {}
+        Line::Is(said) => match said {
+            Said::Layout(_) => {}
+            Said::Word(a, w) => put_word(mem, a, w),
+            Said::Stamp(_) => {}
+            Said::Budget(_) => {}
+        },
+    }
+}
+
+// The words of the M lines, in order.
+fn store_lines(mem: &mut [u8; 65536], sheet: &[u8])
+    ensures { λ _. ⌜ now (mem .exit) ≡ memoryFrom (now (mem .entry)) (pieces (now (sheet .entry))) ⌝ }
+{
+    let mut left = sheet;
+    while left.len() > 0 {
+        let line = read_line(head(left, b'\n'));
+        let after = rest(left, b'\n');
+        store_line(mem, line);
+        left = after;
+    }
+}
+
+// The sheet's memory: the words of the M lines, and 0 elsewhere.
+pub fn load_memory(mem: &mut [u8; 65536], sheet: &[u8])
+    ensures { λ _. ⌜ now (mem .exit) ≡ sheetMemory (now (sheet .entry)) ⌝ }
+    ensures { λ _. ⌜ 65536 ≡ length (now (mem .exit)) ⌝ }
+{
+    *mem = [0; 65536];
+    store_lines(mem, sheet);
+}
+
+// Puts a stamp at an index, where there is room for it.
+fn put_stamp(stamps: &mut [u64], i: usize, stamp: u64)
+    ensures { λ _. ⌜ now (stamps .exit) ≡ set (now (stamps .entry)) i stamp ⌝ }
+{
+    if i < stamps.len() {
+        stamps[i] = stamp;
+    }
+}
+
+// How many stamps a line says: one, or none.
+fn stamps_said(line: Line) -> usize
+    ensures { λ r. ⌜ (r ≡ length (stampOf line [])) × (r ≤ 1) ⌝ }
+{
+    match line {
+        Line::Bad => 0,
+        Line::Is(said) => match said {
+            Said::Layout(_) => 0,
+            Said::Word(_, _) => 0,
+            Said::Stamp(_) => 1,
+            Said::Budget(_) => 0,
+        },
+    }
+}
+
+// What a line puts into the timetable, behind the i stamps before it.
+fn append_line(stamps: &mut [u64], i: usize, line: Line)
+    ensures { λ _. ⌜ now (stamps .exit) ≡ sets (now (stamps .entry)) i (stampOf line []) ⌝ }
+{
+    match line {
+        Line::Bad => {}
+        Line::Is(said) => match said {
+            Said::Layout(_) => {}
+            Said::Word(_, _) => {}
+            Said::Stamp(s) => put_stamp(stamps, i, s),
+            Said::Budget(_) => {}
+        },
+    }
+}
+
+// The sheet's timetable: the stamps of the A lines in order, at the front of what is lent, as far as it goes.
+pub fn load_stamps(stamps: &mut [u64], sheet: &[u8])
+    ensures { λ _. ⌜ now (stamps .exit) ≡ sets (now (stamps .entry)) 0 (sheetStamps (now (sheet .entry))) ⌝ }
+{
+    let mut left = sheet;
+    let mut count = 0;
+    while left.len() > 0 {
+        let line = read_line(head(left, b'\n'));
+        let after = rest(left, b'\n');
+        append_line(stamps, count, line);
+        left = after;
+        count += stamps_said(line);
+    }
+}
