@@ -1,0 +1,122 @@
+// A sheet's run: a line for each step, and the last line.
+use crate::output;
+use crate::output::Page;
+use layout::sections::Layout;
+use machine::answer::End;
+use machine::answer::Outcome;
+use machine::answer::StepAnswer;
+use machine::state::Machine;
+use sheet::reader::Setup;
+use sheet::setup::load_stamps;
+use sheet::transcript;
+
+// Puts a step's line behind what is filled.
+fn put_step(out: &mut [u8], filled: usize, n: u64, kind: Outcome, m: Machine) -> Page {
+    let end = out.len();
+    if end < filled {
+        return Page::Lost;
+    }
+    let clock = m.time.clock;
+    let registers = m.registers;
+    let k = transcript::step_line(
+        &mut out[filled..end],
+        n,
+        kind,
+        clock,
+        registers[0],
+        registers[2],
+    );
+    Page::Filled(filled + k)
+}
+
+// Puts the last line behind what is filled, and writes all.
+fn put_end(out: &mut [u8], filled: usize, ending: End, steps: u64, clock: u64) {
+    let end = out.len();
+    if end < filled {
+        return;
+    }
+    let k = transcript::end_line(&mut out[filled..end], ending, steps, clock);
+    output::flush(out, filled + k);
+}
+
+// The clock is above 2^62.
+fn is_late(m: Machine) -> bool {
+    m.time.clock > 0x4000_0000_0000_0000
+}
+
+// Why a run stops here.
+fn ending(m: Machine) -> End {
+    if m.halted {
+        return End::Halted;
+    }
+    if is_late(m) {
+        return End::Clock;
+    }
+    End::Spent
+}
+
+// A run goes on from here.
+fn goes_on(m: Machine) -> bool {
+    if m.halted {
+        return false;
+    }
+    !is_late(m)
+}
+
+// Whether a line fits, and then the line.
+fn step_page(out: &mut [u8], page: Page, n: u64, kind: Outcome, m: Machine) -> Page {
+    let Page::Filled(filled) = page else {
+        return Page::Lost;
+    };
+    let Page::Filled(start) = output::room(out, filled) else {
+        return Page::Lost;
+    };
+    put_step(out, start, n, kind, m)
+}
+
+// The last line, where nothing was lost.
+fn end_page(out: &mut [u8], page: Page, m: Machine, steps: u64) {
+    let Page::Filled(filled) = page else {
+        return;
+    };
+    let Page::Filled(start) = output::room(out, filled) else {
+        return;
+    };
+    put_end(out, start, ending(m), steps, m.time.clock);
+}
+
+// The steps, each with its line.
+fn steps(m: Machine, mem: &mut [u8], layout: Layout, stamps: &[u64], budget: u64, out: &mut [u8]) {
+    let mut current = m;
+    let mut n: u64 = 0;
+    let mut page = Page::Filled(transcript::header_line(out));
+    while n < budget {
+        if !goes_on(current) {
+            break;
+        }
+        let stepped = current.step(mem, layout, stamps);
+        let next = stepped.machine;
+        let answer = stepped.answer;
+        let StepAnswer::Made(kind) = answer else {
+            return;
+        };
+        n += 1;
+        let further = step_page(out, page, n, kind, next);
+        current = next;
+        page = further;
+    }
+    end_page(out, page, current, n);
+}
+
+// The run of a sheet, from the start of its memory; its timetable is put into what is lent for it.
+pub fn run(setup: Setup, text: &[u8], mem: &mut [u8], stamps: &mut [u64], out: &mut [u8]) {
+    load_stamps(stamps, text);
+    let count = setup.stamps as usize;
+    let layout = setup.layout;
+    if stamps.len() < count {
+        return;
+    }
+    let started = Machine::start(mem);
+    let m = started.machine;
+    steps(m, mem, layout, &stamps[0..count], setup.budget, out);
+}
