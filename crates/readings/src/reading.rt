@@ -1,0 +1,71 @@
+// A sheet's reading: its refusal, or how its run ends.
+use crate::part;
+use libc::STDOUT_FILENO;
+use machine::answer::RunAnswer;
+use machine::state::Machine;
+use sheet::reader::Answer;
+use sheet::reader::Setup;
+use sheet::reader::read_sheet;
+use sheet::setup::load_memory;
+use sheet::setup::load_stamps;
+use sheet::transcript;
+
+// Bytes as they are.
+pub fn print(text: &[u8]) {
+    io::write_all(STDOUT_FILENO, text);
+}
+
+// The last line of a sheet's run, from the start of its memory. A sheet that was read is not refused here; if it were, line 0 would
+// say so.
+fn run_line(out: &mut [u8], setup: Setup, mem: &mut [u8], stamps: &[u64]) -> usize {
+    let count = setup.stamps as usize;
+    let layout = setup.layout;
+    if stamps.len() < count {
+        return 0;
+    }
+    let started = Machine::start(mem);
+    let m = started.machine;
+    let ran = m.run(mem, layout, &stamps[0..count], setup.budget);
+    let next = ran.machine;
+    let answer = ran.answer;
+    match answer {
+        RunAnswer::Made(end, steps) => transcript::end_line(out, end, steps, next.time.clock),
+        RunAnswer::Refused(refusal) => transcript::refusal_line(out, refusal, 0),
+    }
+}
+
+// The last line that the bench prints for a sheet, put into what is lent; its length.
+fn last_line(out: &mut [u8], text: &[u8], mem: &mut [u8; 65536], stamps: &mut [u64]) -> usize {
+    match read_sheet(text) {
+        Answer::Refused(refusal, line) => transcript::refusal_line(out, refusal, line),
+        Answer::Read(setup) => {
+            load_memory(mem, text);
+            load_stamps(stamps, text);
+            run_line(out, setup, mem, stamps)
+        }
+    }
+}
+
+// One sheet: its name, a tab, its last line.
+fn one(name: &[u8], text: &[u8], mem: &mut [u8; 65536], stamps: &mut [u64]) {
+    let mut line = [0u8; 64];
+    print(name);
+    print(b"\t");
+    let n = last_line(&mut line, text, mem, stamps);
+    if n <= 64 {
+        print(&line[0..n]);
+    }
+}
+
+// Every sheet.
+pub fn all(text: &[u8], mem: &mut [u8; 65536], stamps: &mut [u64]) {
+    let mut at = 0;
+    while at < text.len() {
+        let named = part::end(text, at);
+        let start = part::after(text, at, named);
+        let end = part::end(text, start);
+        let next = part::after(text, at, end);
+        one(&text[at..named], &text[start..end], mem, stamps);
+        at = next;
+    }
+}
