@@ -2,3 +2,4 @@ pub mod Finding
 pub mod NumberLaws
 pub mod SheetLaws
 pub mod TranscriptLaws
+pub mod SoundLaws

@@ -147,7 +147,7 @@ module _ (s : List ℕ) where
 -- ---- the setup, a line at a time
 
 -- the empty line says nothing
-empty-line : lineOf [] ≡ Bad
+pub empty-line : lineOf [] ≡ Bad
 unfolding lineOf find if_then_else_
 empty-line = refl
 

@@ -3,3 +3,4 @@ pub mod Number
 pub mod Line
 pub mod Sheet
 pub mod Transcript
+pub mod Laws

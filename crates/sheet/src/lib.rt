@@ -1,4 +1,5 @@
 // The bench sheet: its fields and lines, and the setup that it tells.
+pub mod laws;
 pub mod line;
 pub mod number;
 pub mod reader;

@@ -1,0 +1,178 @@
+-- What a sheet sets up, the machine takes. Assumes nothing.
+use Prim.Native.Nat.{ℕ, zero, suc, _+_, _≤_}
+use mathlib.Core.Path.{_≡_, refl, sym, _∙_, ap, subst}
+use mathlib.Core.Bool.{Bool, true, false, true≢false}
+use mathlib.Core.List.{List, [], _∷_}
+use native.Mathlib.Omega.{arith}
+use lib.Dec.{eqb, ltb, leb}
+use lib.ListN.{length}
+use borrow.Author.Tests.{ltb-true, leb-true, le-leb}
+use Rattle.base.specs.Test.{if_then_else_, all}
+use Rattle.base.specs.declared.refusal.Refusal.{Refusal}
+use Rattle.base.specs.declared.refusal.Refusal.the-variants.{Timetable}
+use Rattle.base.proofs.Tests.{cases, choose, each, every, if-true, if-false}
+use Rattle.layout.specs.declared.sections.Layout.{Layout}
+use Rattle.layout.specs.Rules.{accepted}
+use Rattle.machine.specs.Run.{lastClock}
+use Rattle.machine.specs.Calls.{risingFrom, timetable}
+use Rattle.sheet.specs.declared.line.Said.{Said}
+use Rattle.sheet.specs.declared.line.Said.the-variants.{Layout as Layouts, Word, Stamp, Budget}
+use Rattle.sheet.specs.declared.line.Line.{Line}
+use Rattle.sheet.specs.declared.line.Line.the-variants.{Is, Bad}
+use Rattle.sheet.specs.declared.reader.Setup.{Setup}
+use Rattle.sheet.specs.declared.reader.Answer.{Answer}
+use Rattle.sheet.specs.declared.reader.Answer.the-variants.{Read, Refused}
+use Rattle.sheet.specs.declared.reader.First.{First}
+use Rattle.sheet.specs.declared.reader.First.the-variants.{Is as FirstIs, Other}
+use Rattle.sheet.specs.declared.reader.Stage.{Stage}
+use Rattle.sheet.specs.declared.reader.Stage.the-variants.{Goes, Stops}
+use Rattle.sheet.specs.Line.{lineOf}
+use Rattle.sheet.specs.Sheet.{pieces, noneFollows, nothingFollows, fitsTimetable, budgetAnswer, stageOf, onStage, onLine, bodyFrom, firstOf, onFirst, linesAnswer, sheetAnswer, stampOf, stampsFrom, sheetStamps}
+use Rattle.sheet.specs.Laws.{Sound, ReadIsSound}
+use Rattle.sheet.proofs.SheetLaws.{empty-line}
+
+-- what an answer must keep: if it is a setup, it is of this layout, and what the lines add to the stamps so far fits it
+record Adds (L : Layout) (last count : ℕ) (stamps : List ℕ) (setup : Setup) : Type 0 where
+  layout : setup .layout ≡ L
+  rising : risingFrom last stamps ≡ true
+  counted : setup .stamps ≡ count + length stamps
+  few : setup .stamps ≤ 4096
+  near : setup .budget ≤ 1000000
+
+Keeps : Layout → ℕ → ℕ → List ℕ → Answer → Type 0
+Keeps L last count stamps (Read setup) = Adds L last count stamps setup
+Keeps L last count stamps (Refused r n) = Unit {0}
+
+-- nothing follows: no stamp does
+nothing-said : (ps : List (List ℕ)) → nothingFollows ps ≡ true → stampsFrom ps ≡ []
+unfolding stampsFrom
+nothing-said [] e = refl
+nothing-said ([] ∷ []) e = rw empty-line
+nothing-said ([] ∷ (q ∷ ps)) e = absurd (true≢false (sym e))
+nothing-said ((x ∷ p) ∷ ps) e = absurd (true≢false (sym e))
+
+module _ (L : Layout) (n last count : ℕ) (h : count ≤ 4096) where
+  -- the budget's line ends a sheet
+  budget-keeps : (b : ℕ) (ps : List (List ℕ)) → Keeps L last count (stampsFrom ps) (budgetAnswer L n count b (nothingFollows ps))
+  unfolding budgetAnswer Keeps
+  budget-keeps b ps =
+      cases (leb b 1000000)
+      (λ e.
+      cases (nothingFollows ps)
+      (λ f. rw (e, f, nothing-said ps f) (unfold risingFrom if_then_else_ in record {
+        layout = refl;
+        rising = refl;
+        counted = omega arith;
+        few = h;
+        near = leb-true _ _ e;
+      }))
+      (λ f. rw (e, f) (unfold if_then_else_ in tt)))
+      (λ e. rw e (unfold if_then_else_ in tt))
+
+-- a stamp that fits, before stamps that rise from it
+rises : (last s : ℕ) (ss : List ℕ) → ltb last s ≡ true → leb s lastClock ≡ true → risingFrom s ss ≡ true
+    → risingFrom last (s ∷ ss) ≡ true
+unfolding risingFrom
+rises last s ss h k r = if-true _ _ _ (every (ltb last s ∷ leb s lastClock ∷ []) (h, (k, tt))) ∙ r
+
+-- a line after L, where the further ones keep what they must
+module _ (L : Layout) (n last count : ℕ) (h : count ≤ 4096) (ps : List (List ℕ))
+    (further : (l c : ℕ) → c ≤ 4096 → Keeps L l c (stampsFrom ps) (bodyFrom L (n + 1) l c ps)) where
+  add : (s : ℕ) → fitsTimetable last count s ≡ true → (a : Answer) → Keeps L s (count + 1) (stampsFrom ps) a
+      → Keeps L last count (s ∷ stampsFrom ps) a
+  unfolding fitsTimetable Keeps
+  add s f (Refused r m) k = tt
+  add s f (Read setup) k =
+      let g = each (ltb count 4096 ∷ ltb last s ∷ leb s lastClock ∷ []) f in
+      let c = k .counted in
+      record {
+        layout = k .layout;
+        rising = rises last s (stampsFrom ps) (g .1 .0) (g .1 .1 .0) (k .rising);
+        counted = omega arith;
+        few = k .few;
+        near = k .near;
+      }
+
+  -- a stamp that fits goes on, one that does not stops
+  stamp-keeps : (s : ℕ) → Keeps L last count (s ∷ stampsFrom ps)
+      (onStage (if fitsTimetable last count s then Goes s (count + 1) else Stops (Refused Timetable n))
+      (λ l c. bodyFrom L (n + 1) l c ps))
+  unfolding fitsTimetable Keeps
+  stamp-keeps s =
+      cases (fitsTimetable last count s)
+      (λ f.
+      let g = each (ltb count 4096 ∷ ltb last s ∷ leb s lastClock ∷ []) f in
+      let k : count + 1 ≤ 4096 = omega (arith, ltb-true count 4096 (g .0)) in
+      rw (if-true _ (Goes s (count + 1)) (Stops (Refused Timetable n)) f) (add s f (bodyFrom L (n + 1) s (count + 1) ps) (further s (count + 1) k)))
+      (λ f. rw (if-false _ (Goes s (count + 1)) (Stops (Refused Timetable n)) f) tt)
+
+  said-keeps : (said : Said)
+      → Keeps L last count (stampOf (Is said) (stampsFrom ps))
+      (onStage (stageOf L n last count said (nothingFollows ps)) (λ l c. bodyFrom L (n + 1) l c ps))
+  unfolding stageOf Keeps
+  said-keeps (Layouts M) = tt
+  said-keeps (Word a w) = further last count h
+  said-keeps (Stamp s) = stamp-keeps s
+  said-keeps (Budget b) = budget-keeps L n last count h b ps
+
+  line-keeps : (line : Line)
+      → Keeps L last count (stampOf line (stampsFrom ps))
+      (onLine n line (λ said. onStage (stageOf L n last count said (nothingFollows ps)) (λ l c. bodyFrom L (n + 1) l c ps)))
+  unfolding Keeps
+  line-keeps Bad = tt
+  line-keeps (Is said) = said-keeps said
+
+-- the lines after L
+body-keeps : (L : Layout) (ps : List (List ℕ)) (n last count : ℕ) → count ≤ 4096
+    → Keeps L last count (stampsFrom ps) (bodyFrom L n last count ps)
+unfolding bodyFrom stampsFrom Keeps
+body-keeps L [] n last count h = tt
+body-keeps L (p ∷ ps) n last count h =
+    choose (Keeps L last count (stampOf (lineOf p) (stampsFrom ps))) (noneFollows ps) (λ e. tt)
+    (λ e. line-keeps L n last count h ps (λ l c k. body-keeps L ps (n + 1) l c k) (lineOf p))
+
+-- the first line: its own piece says no stamp
+abbrev Whole : List ℕ → Answer → Type 0
+Whole stamps a = (setup : Setup) → a ≡ Read setup → Sound setup stamps
+
+refused-whole : (stamps : List ℕ) (r : Refusal) (n : ℕ) → Whole stamps (Refused r n)
+refused-whole stamps r n setup e = absurd (other e)
+  where
+    isRead : Answer → Bool
+    isRead (Read s) = true
+    isRead (Refused r n) = false
+
+    other : Refused r n ≡ Read setup → ⊥
+    other e = true≢false (sym (ap isRead e))
+
+body-whole : (L : Layout) (ps : List (List ℕ)) → accepted L ≡ true → Whole (stampsFrom ps) (bodyFrom L 2 0 0 ps)
+unfolding Keeps timetable
+body-whole L ps f setup e =
+    let k : Adds L 0 0 (stampsFrom ps) setup = subst (Keeps L 0 0 (stampsFrom ps)) e (body-keeps L ps 2 0 0 (omega arith)) in
+    let c = k .counted in
+    let w = k .few in
+    record {
+      fence = ap accepted (k .layout) ∙ f;
+      rising = every (leb (length (stampsFrom ps)) 4096 ∷ risingFrom 0 (stampsFrom ps) ∷ []) (le-leb (length (stampsFrom ps)) 4096 (omega arith), (k .rising, tt));
+      counted = omega arith;
+      near = k .near;
+    }
+
+first-whole : (line : Line) (ps : List (List ℕ))
+    → Whole (stampOf line (stampsFrom ps)) (onLine 1 line (λ said. onFirst (firstOf said) (λ L. bodyFrom L 2 0 0 ps)))
+first-whole Bad ps = refused-whole _ _ _
+first-whole (Is (Layouts L)) ps = choose (Whole (stampsFrom ps)) (accepted L) (λ f. body-whole L ps f) (λ f. refused-whole _ _ _)
+first-whole (Is (Word a w)) ps = refused-whole _ _ _
+first-whole (Is (Stamp s)) ps = refused-whole _ _ _
+first-whole (Is (Budget b)) ps = refused-whole _ _ _
+
+lines-whole : (ps : List (List ℕ)) → Whole (stampsFrom ps) (linesAnswer ps)
+unfolding linesAnswer stampsFrom
+lines-whole [] = refused-whole _ _ _
+lines-whole (p ∷ ps) =
+    choose (Whole (stampOf (lineOf p) (stampsFrom ps))) (noneFollows ps) (λ e. refused-whole _ _ _) (λ e. first-whole (lineOf p) ps)
+
+pub read-is-sound : ReadIsSound
+unfolding ReadIsSound sheetAnswer sheetStamps
+read-is-sound sheet =
+    choose (Whole (stampsFrom (pieces sheet))) (leb (length sheet) 32768) (λ e. lines-whole (pieces sheet)) (λ e. refused-whole _ _ _)
