@@ -6,6 +6,7 @@
 //! ```text
 //! rustc --edition 2021 -O --crate-type rlib --crate-name model src/lib.rs --out-dir OUT
 //! rustc --edition 2021 -O src/bin/bench.rs --extern model=OUT/libmodel.rlib -o OUT/bench
+//! (so also the other files of src/bin, each of which writes a program's expected output)
 //! rustc --edition 2021 -O --test --crate-name model src/lib.rs -o OUT/tests
 //! ```
 //!
