@@ -33,6 +33,19 @@ pub enum Right {
     Write,
 }
 
+/// The five addresses in document 01's order.
+impl From<[u16; 5]> for Layout {
+    fn from([code_start, code_end, data_start, data_end, service]: [u16; 5]) -> Layout {
+        Layout {
+            code_start,
+            code_end,
+            data_start,
+            data_end,
+            service,
+        }
+    }
+}
+
 impl Layout {
     /// "All are even; each start is below its end; code and data do not
     /// overlap; the service address is in neither."

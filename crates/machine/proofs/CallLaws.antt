@@ -25,8 +25,8 @@ use Rattle.machine.specs.Registers.{cleared}
 use Rattle.machine.specs.Time.{startTime}
 use Rattle.machine.specs.State.{World, world, resetAddress, fresh, start}
 use Rattle.machine.specs.Run.{lastClock, stepOf, run}
-use Rattle.machine.specs.Calls.{wholeMemory, timetable, Test, verdict, startTests, stepTests, runTests, stepAnswered, runAnswered, startCall, stepCall, runCall, startRefusal, stepRefusal, runRefusal, refusedBy, Untouched, started, stepped, ran, stopped}
-use Rattle.machine.proofs.Handed.{Handed, handed}
+use Rattle.machine.specs.Calls.{wholeMemory, timetable, Test, verdict, startTests, stepTests, runTests, stepAnswered, runAnswered, startCall, stepCall, runCall, runRefusal, refusedBy, Untouched, started, stepped, ran, stopped}
+use Rattle.machine.proofs.Handed.{Handed}
 
 -- where all tests hold, the first does and the others do
 pub first-holds : (t : Test) (ts : List Test) → verdict (t ∷ ts) ≡ taken → (t .holds ≡ true) × (verdict ts ≡ taken)

@@ -18,7 +18,6 @@ use Rattle.machine.specs.Run.{lastClock, goes, stops, ending, Stop, worl
 use Rattle.machine.specs.Place.{Passed, RightPlace, Ready}
 use Rattle.machine.specs.Calls.{timetable}
 use Rattle.machine.specs.Laws.{LengthKept}
-use Rattle.machine.proofs.PlaceLaws.{passed-later}
 use Rattle.machine.proofs.CycleLaws.{clock-rises}
 use Rattle.machine.proofs.TouchLaws.{length-kept}
 

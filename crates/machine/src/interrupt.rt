@@ -42,20 +42,6 @@ pub fn reset_address(mem: &[u8]) -> u16
     drop_bit_0(word_at(mem, 0xfffe))
 }
 
-// A machine whose previous instruction is none, with nothing held.
-pub fn fresh_machine(registers: [u16; 16], time: Time) -> Machine
-    ensures { λ r. ⌜ r ≡ fresh registers time ⌝ }
-{
-    Machine {
-        registers: registers,
-        previous: 0xfffe,
-        time: time,
-        visit: Visit::Free,
-        saved: zero_registers(),
-        halted: false,
-    }
-}
-
 // A service starts: the previous address is FFFE.
 fn serving_machine(registers: [u16; 16], time: Time, visit: Visit, saved: [u16; 16]) -> Machine
     ensures { λ r. ⌜ r ≡ serving registers time visit saved ⌝ }
@@ -68,6 +54,13 @@ fn serving_machine(registers: [u16; 16], time: Time, visit: Visit, saved: [u16; 
         saved: saved,
         halted: false,
     }
+}
+
+// A machine whose previous instruction is none, with nothing held.
+pub fn fresh_machine(registers: [u16; 16], time: Time) -> Machine
+    ensures { λ r. ⌜ r ≡ fresh registers time ⌝ }
+{
+    serving_machine(registers, time, Visit::Free, zero_registers())
 }
 
 // Clock minus stamp, at most 6 counted.

@@ -1,11 +1,9 @@
 // The sixteen registers by their number: a number above 15 reads 0 and ignores writes, as in the definitions.
 ghost use mathlib.Core.Path.{_≡_};
-ghost use mathlib.Core.List.{[], _∷_};
-ghost use lib.Dec.{eqb};
 ghost use lib.ListN.{set};
-ghost use Rattle.base.specs.Test.{all};
 ghost use Rattle.machine.specs.Registers.{register, write, zeros, cleared};
 use alu::status::keep_gie;
+use base::test::both;
 use base::word::drop_bit_0;
 
 // Register n.
@@ -27,13 +25,6 @@ pub fn set_register(registers: [u16; 16], n: u8, w: u16) -> [u16; 16]
     next
 }
 
-// A write to the status from inside.
-fn keeps_gie(inside: bool, n: u8) -> bool
-    ensures { λ r. ⌜ r ≡ all (eqb n 2 ∷ inside ∷ []) ⌝ }
-{
-    if n == 2 { inside } else { false }
-}
-
 // A write to register n, from inside or not.
 pub fn write_register(inside: bool, registers: [u16; 16], n: u8, w: u16) -> [u16; 16]
     ensures { λ r. ⌜ r ≡ write inside registers n w ⌝ }
@@ -44,7 +35,7 @@ pub fn write_register(inside: bool, registers: [u16; 16], n: u8, w: u16) -> [u16
     if n <= 1 {
         return set_register(registers, n, drop_bit_0(w));
     }
-    if keeps_gie(inside, n) {
+    if both(n == 2, inside) {
         return set_register(registers, 2, keep_gie(read_register(registers, 2), w));
     }
     set_register(registers, n, w)

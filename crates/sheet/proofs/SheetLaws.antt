@@ -151,43 +151,28 @@ pub empty-line : lineOf [] ≡ Bad
 unfolding lineOf find if_then_else_
 empty-line = refl
 
--- whatever is made of the pieces in order, where an unsaid line makes nothing, is made of the first line and the rest
-module _ {A : Type 0} (make : List (List ℕ) → A → A) (one : List ℕ → A → A)
-    (nil : (a : A) → make [] a ≡ a)
-    (cons : (p : List ℕ) (ps : List (List ℕ)) (a : A) → make (p ∷ ps) a ≡ make ps (one p a))
-    (none : (a : A) → one [] a ≡ a) where
-  made-empty : (a : A) → make ([] ∷ []) a ≡ a
-  made-empty a = cons [] [] a ∙ nil (one [] a) ∙ none a
-
-  pub made-next : (s : List ℕ) (a : A) → make (pieces s) a ≡ make (pieces (rest s newline)) (one (head s newline) a)
-  unfolding pieces
-  made-next s a =
-      cases (ltb (find s newline) (length s))
-      (λ e. rw (pieces-here s (ltb-true _ _ e)) (cons _ _ a))
-      (λ e.
-      let f = ltb-false _ _ e in
-      let g : length s ≤ find s newline + 1 = omega arith in
-      rw (pieces-last s f, take-all (find s newline) s f, drop-of-length-le s g)
-      (cons s [] a ∙ nil (one s a) ∙ sym (made-empty (one s a))))
-
-  pub made-end : (s : List ℕ) (a : A) → length s ≤ 0 → make (pieces s) a ≡ a
-  unfolding pieces
-  made-end [] a h = made-empty a
-  made-end (x ∷ xs) a h = absurd (omega arith)
+-- whatever does not look at an empty last piece takes the first line, and then the rest
+next-piece : {B : Type 0} (f : List (List ℕ) → B) → ((p : List ℕ) → f (p ∷ [] ∷ []) ≡ f (p ∷ [])) → (s : List ℕ)
+    → f (pieces s) ≡ f (head s newline ∷ pieces (rest s newline))
+unfolding pieces
+next-piece f none s =
+    cases (ltb (find s newline) (length s))
+    (λ e. ap f (pieces-here s (ltb-true _ _ e)))
+    (λ e.
+    let h = ltb-false _ _ e in
+    let g : length s ≤ find s newline + 1 = omega arith in
+    rw (pieces-last s h, take-all (find s newline) s h, drop-of-length-le s g) (sym (none s)))
 
 -- memory
 module _ (s mem : List ℕ) where
-  abbrev memoryMade : List (List ℕ) → List ℕ → List ℕ
-  memoryMade ps mem = memoryFrom mem ps
-
   pub memory-next : memoryFrom mem (pieces s) ≡ memoryFrom (stored (lineOf (head s newline)) mem) (pieces (rest s newline))
   unfolding memoryFrom
-  memory-next =
-      made-next memoryMade (λ p m. stored (lineOf p) m) (λ m. refl) (λ p ps m. refl) (λ m. rw empty-line) s mem
+  memory-next = next-piece (memoryFrom mem) (λ p. rw empty-line) s
 
-  pub memory-end : length s ≤ 0 → memoryFrom mem (pieces s) ≡ mem
-  unfolding memoryFrom
-  memory-end h = made-end memoryMade (λ p m. stored (lineOf p) m) (λ m. refl) (λ p ps m. refl) (λ m. rw empty-line) s mem h
+pub memory-end : (s mem : List ℕ) → length s ≤ 0 → memoryFrom mem (pieces s) ≡ mem
+unfolding memoryFrom pieces
+memory-end [] mem h = rw empty-line
+memory-end (x ∷ xs) mem h = absurd (omega arith)
 
 -- lines keep memory's length
 stored-length : (line : Line) (mem : List ℕ) → length (stored line mem) ≡ length mem
@@ -213,14 +198,8 @@ rest-less s h = rw (length-drop (find s newline + 1) s) (omega arith)
 
 -- the timetable
 pub stamps-next : (s : List ℕ) → stampsFrom (pieces s) ≡ stampOf (lineOf (head s newline)) (stampsFrom (pieces (rest s newline)))
-unfolding stampsFrom pieces
-stamps-next s =
-    cases (ltb (find s newline) (length s))
-    (λ e. rw (pieces-here s (ltb-true _ _ e)))
-    (λ e.
-    let f = ltb-false _ _ e in
-    let g : length s ≤ find s newline + 1 = omega arith in
-    rw (pieces-last s f, take-all (find s newline) s f, drop-of-length-le s g, empty-line))
+unfolding stampsFrom
+stamps-next s = next-piece stampsFrom (λ p. rw empty-line) s
 
 pub stamps-end : (s : List ℕ) → length s ≤ 0 → stampsFrom (pieces s) ≡ []
 unfolding stampsFrom pieces

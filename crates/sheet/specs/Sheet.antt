@@ -6,7 +6,6 @@ use lib.Dec.{eqb, ltb, leb}
 use lib.ListN.{length, replicate}
 use Rattle.base.specs.Test.{if_then_else_, all}
 use Rattle.base.specs.declared.refusal.Refusal.the-variants.{Fence, Timetable, Distance, Line as Unreadable, Sheet as TooLong}
-use Rattle.base.specs.Refusal.{refusalNumber}
 use Rattle.layout.specs.declared.sections.Layout.{Layout}
 use Rattle.layout.specs.Rules.{accepted}
 use Rattle.machine.specs.Memory.{putWord}
@@ -100,6 +99,7 @@ abbrev pub onFirst : First → (Layout → Answer) → Answer
 onFirst (FirstIs L) further = if accepted L then further L else Refused Fence 1
 onFirst Other further = Refused Unreadable 1
 
+-- then the others
 unfoldable pub linesAnswer : List (List ℕ) → Answer
 linesAnswer [] = Refused Unreadable 1
 linesAnswer (p ∷ ps) =
@@ -109,11 +109,6 @@ linesAnswer (p ∷ ps) =
 -- a sheet above 32,768 bytes is refused before all
 unfoldable pub sheetAnswer : List ℕ → Answer
 sheetAnswer sheet = if leb (length sheet) 32768 then linesAnswer (pieces sheet) else Refused TooLong 0
-
--- the number that a refusal prints, 0 where there is none
-abbrev pub sheetRefusal : Answer → ℕ
-sheetRefusal (Read s) = 0
-sheetRefusal (Refused r n) = refusalNumber r
 
 -- ---- the setup
 
@@ -125,6 +120,7 @@ stored (Is (Word a w)) mem = putWord mem a w
 stored (Is (Stamp s)) mem = mem
 stored (Is (Budget b)) mem = mem
 
+-- the M lines in order
 unfoldable pub memoryFrom : List ℕ → List (List ℕ) → List ℕ
 memoryFrom mem [] = mem
 memoryFrom mem (p ∷ ps) = memoryFrom (stored (lineOf p) mem) ps
@@ -141,9 +137,11 @@ stampOf (Is (Word a w)) ss = ss
 stampOf (Is (Stamp s)) ss = s ∷ ss
 stampOf (Is (Budget b)) ss = ss
 
+-- of every line
 unfoldable pub stampsFrom : List (List ℕ) → List ℕ
 stampsFrom [] = []
 stampsFrom (p ∷ ps) = stampOf (lineOf p) (stampsFrom ps)
 
+-- the timetable of a sheet
 unfoldable pub sheetStamps : List ℕ → List ℕ
 sheetStamps sheet = stampsFrom (pieces sheet)

@@ -1,7 +1,6 @@
 // The numbers that a field holds: four hexadecimal digits, or a decimal.
 ghost use mathlib.Core.Path.{_≡_};
 ghost use Rattle.sheet.specs.Number.{hexDigit, decimalDigit, within, hexOf, zeroLed, decimalOf};
-use base::test::both;
 
 // A digit, or no digit.
 pub enum Digit {

@@ -76,21 +76,10 @@ fn new_world() -> World {
             previous: 0xFFFE,
             held: None,
         },
-        layout: layout(&[0x8000, 0x8008, 0x8100, 0x8104, 0x4500]),
+        layout: Layout::from([0x8000, 0x8008, 0x8100, 0x8104, 0x4500]),
         memory: vec![0; BYTES],
         lent: 65_536,
         stamps: Vec::new(),
-    }
-}
-
-fn layout(addresses: &[u16; 5]) -> Layout {
-    let [code_start, code_end, data_start, data_end, service] = *addresses;
-    Layout {
-        code_start,
-        code_end,
-        data_start,
-        data_end,
-        service,
     }
 }
 
@@ -124,7 +113,7 @@ fn obey(world: &mut World, letter: char, fields: &[u64]) -> Option<()> {
     match (letter, fields) {
         ('W', []) => *world = new_world(),
         ('L', &[a, b, c, d, e]) => {
-            world.layout = layout(&[word(a)?, word(b)?, word(c)?, word(d)?, word(e)?]);
+            world.layout = Layout::from([word(a)?, word(b)?, word(c)?, word(d)?, word(e)?]);
         }
         ('M', [address, words @ ..]) if !words.is_empty() => {
             let address = word(*address)?;

@@ -86,7 +86,7 @@ fn main() {
     }
 
     // Part C, access.
-    let taken = layout([0x8000, 0x8008, 0x8100, 0x8104, 0x4500]);
+    let taken = Layout::from([0x8000, 0x8008, 0x8100, 0x8104, 0x4500]);
     for from in FROM {
         for (name, right) in RIGHTS {
             let mut answers = String::new();
@@ -102,21 +102,11 @@ fn main() {
     }
     for addresses in LAYOUTS {
         let [a, b, c, d, e] = addresses;
-        let number = match layout(addresses).access(0x4404, Right::Execute, 0x8000) {
+        let number = match Layout::from(addresses).access(0x4404, Right::Execute, 0x8000) {
             Ok(_) => 0,
             Err(number) => number,
         };
         println!("{a:04x} {b:04x} {c:04x} {d:04x} {e:04x} {number}");
-    }
-}
-
-fn layout([code_start, code_end, data_start, data_end, service]: [u16; 5]) -> Layout {
-    Layout {
-        code_start,
-        code_end,
-        data_start,
-        data_end,
-        service,
     }
 }
 

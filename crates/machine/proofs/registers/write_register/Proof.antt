@@ -20,8 +20,8 @@ returns-2 : tie.Need-returns-2
 unfolding write if_then_else_
 returns-2 c = simp (c .set-register .ensures, c .before .drop-bit-0 .ensures, ne-eqb _ _ (c .before .before .before .if1 .left), le-leb _ _ (c .before .before .if2 .taken))
 
-keeps-gie-requires : tie.Need-keeps-gie-requires
-keeps-gie-requires c κs = search needs
+both-requires : tie.Need-both-requires
+both-requires c κs = search needs
 
 read-register-requires : tie.Need-read-register-requires
 read-register-requires c κs = search needs
@@ -34,14 +34,14 @@ set-register-requires-2 c κs = search needs
 
 returns-3 : tie.Need-returns-3
 unfolding write if_then_else_
-returns-3 c = simp (c .set-register2 .ensures, c .before .keep-gie .ensures, c .before .before .read-register .ensures, ne-eqb _ _ (c .before .before .before .before .before .before .if1 .left), lt-leb _ _ (c .before .before .before .before .before .if2 .left), sym (c .before .before .before .before .keeps-gie .ensures), c .before .before .before .if3 .taken)
+returns-3 c = simp (c .set-register2 .ensures, c .before .keep-gie .ensures, c .before .before .read-register .ensures, ne-eqb _ _ (c .before .before .before .before .before .before .if1 .left), lt-leb _ _ (c .before .before .before .before .before .if2 .left), sym (c .before .before .before .before .both .ensures), c .before .before .before .if3 .taken)
 
 set-register-requires-3 : tie.Need-set-register-requires-3
 set-register-requires-3 c κs = search needs
 
 returns-4 : tie.Need-returns-4
 unfolding write if_then_else_
-returns-4 c = simp (c .set-register3 .ensures, ne-eqb _ _ (c .before .before .before .before .if1 .left), lt-leb _ _ (c .before .before .before .if2 .left), sym (c .before .before .keeps-gie .ensures), c .before .if3 .left)
+returns-4 c = simp (c .set-register3 .ensures, ne-eqb _ _ (c .before .before .before .before .if1 .left), lt-leb _ _ (c .before .before .before .if2 .left), sym (c .before .before .both .ensures), c .before .if3 .left)
 
 pub write-register-spec : {M : Type 1} → statement M
 write-register-spec =
@@ -51,7 +51,7 @@ write-register-spec =
     drop-bit-0-requires
     set-register-requires
     returns-2
-    keeps-gie-requires
+    both-requires
     read-register-requires
     keep-gie-requires
     set-register-requires-2
