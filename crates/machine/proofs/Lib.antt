@@ -7,6 +7,8 @@ pub mod SideLaws
 pub mod PassLaws
 pub mod MemoryLaws
 pub mod StepLaws
+pub mod QuickLaws
+pub mod QuickRun
 pub mod GieLaws
 pub mod TouchLaws
 pub mod Turns
@@ -26,3 +28,4 @@ pub mod ServedAlike
 pub mod LocalLaws
 pub mod TimetableLaws
 pub mod PlaceLaws
+pub mod StillLaws

@@ -129,7 +129,7 @@ unfolding Within
 none-within a Never h = refl
 none-within a (At s) h = absurd (omega arith)
 
-filled-never : (x : Stamp) → filledBy x Never ≡ x
+pub filled-never : (x : Stamp) → filledBy x Never ≡ x
 unfolding filledBy
 filled-never Never = refl
 filled-never (At s) = refl

@@ -26,7 +26,7 @@ earlier-never (At s) = refl
 
 module _ (a b : ℕ) where
   -- a stamp that the clock has passed does not happen
-  passed-by : (s : ℕ) → s ≤ a → happening a b (At s) ≡ Never
+  pub passed-by : (s : ℕ) → s ≤ a → happening a b (At s) ≡ Never
   unfolding happening all if_then_else_
   passed-by s h = rw (le-ltb a s h)
 

@@ -17,9 +17,7 @@ use Rattle.machine.specs.Interrupt.{Step, moved}
 use Rattle.machine.specs.Run.{lastClock, goes, stops, ending, Stop, worldAfter, stepOf, runFrom, run, stopOr}
 use Rattle.machine.specs.Place.{Passed, RightPlace, Ready}
 use Rattle.machine.specs.Calls.{timetable}
-use Rattle.machine.specs.Laws.{LengthKept}
-use Rattle.machine.proofs.CycleLaws.{clock-rises}
-use Rattle.machine.proofs.TouchLaws.{length-kept}
+use Rattle.machine.specs.Quick.{Turn}
 
 -- why the loop leaves, and where it does not
 pub ending-halted : (m : Machine) → m .halted ≡ true → ending m ≡ stops Halted
@@ -54,25 +52,18 @@ module _ (L : Layout) (stamps : List ℕ) where
       record { size = h; within = omega arith; place-passed = p .passed; lands = rw e }
 
   module _ (budget : ℕ) (from w : World) (n place : ℕ) (t : Turning budget from w n place) where
-    -- a turn that is not the last: n steps are fewer than the budget
-    turned : (k : ℕ) → budget - n ≡ suc k → ending (w .machine) ≡ goes
-        → runFrom L stamps n (budget - n) w ≡ runFrom L stamps (n + 1) k (worldAfter (stepOf L stamps w))
-    unfolding runFrom
-    turned k e g = rw e (ap (stopOr L stamps n w _) g)
-
-    pub turning-next : (n ≡ budget → ⊥) → w .machine .halted ≡ false → w .machine .time .clock ≤ lastClock
-        → (next : World) → next ≡ worldAfter (stepOf L stamps w) → (further : ℕ)
-        → RightPlace stamps (next .machine .time .clock) further → Turning budget from next (n + 1) further
-    unfolding LengthKept
-    turning-next ne h k next e further p =
+    -- a turn
+    pub turning-next : (k : ℕ) (next : World) → Turn L stamps (budget - n) w k next → (further : ℕ)
+        → RightPlace stamps (next .machine .time .clock) further → Turning budget from next (n + k) further
+    turning-next k next u further p =
         let i = t .within in
-        let s : budget - n ≡ suc (budget - (n + 1)) = omega arith in
+        let j = u .within in
+        let e : budget - n - k ≡ budget - (n + k) = omega arith in
         record {
-          size = ap (λ (u : World). length (u .memory)) e ∙ length-kept L stamps (w .machine) (w .memory) ∙ t .size;
+          size = u .size ∙ t .size;
           within = omega arith;
           place-passed = p .passed;
-          lands = t .lands ∙ turned _ s (ending-goes _ h k)
-              ∙ ap (runFrom L stamps (n + 1) (budget - (n + 1))) (sym e);
+          lands = t .lands ∙ u .lands n ∙ ap (λ (z : ℕ). runFrom L stamps (n + k) z next) e;
         }
 
     -- a machine that stops, whatever is left
@@ -102,10 +93,8 @@ module _ (L : Layout) (stamps : List ℕ) where
     turning-ready h k = record { timed = h; passed = t .place-passed; room = omega arith }
 
     -- and what finding the next place asks for
-    pub turning-passed : w .machine .halted ≡ false → (clock : ℕ) → clock ≡ stepOf L stamps w .machine .time .clock
-        → Passed stamps clock place
-    turning-passed h clock e =
-        let g = clock-rises L stamps (w .machine) (w .memory) h in
+    pub turning-passed : (clock : ℕ) → w .machine .time .clock ≤ clock → Passed stamps clock place
+    turning-passed clock g =
         record {
           fits = t .place-passed .fits;
           gone = λ i j. let o = t .place-passed .gone i j in omega arith;

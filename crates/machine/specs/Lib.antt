@@ -10,5 +10,6 @@ pub mod Step
 pub mod Run
 pub mod Calls
 pub mod Place
+pub mod Quick
 pub mod Laws
 pub mod Starred

@@ -11,10 +11,9 @@ use crate::answer::Stepped;
 use crate::interrupt::fresh_machine;
 use crate::interrupt::reset_address;
 use crate::registers::cleared_registers;
+use crate::run::one_step;
 use crate::run::run_steps;
 use crate::state::Machine;
-use crate::step::take_step;
-use crate::time::first_place;
 use crate::time::start_time;
 use crate::verdict::Verdict;
 use crate::verdict::is_whole;
@@ -53,8 +52,7 @@ impl Machine {
                 answer: StepAnswer::Refused(refusal),
             },
             Verdict::Taken => {
-                let place = first_place(stamps, self.time.clock);
-                let moved = take_step(self, mem, layout, stamps, place);
+                let moved = one_step(self, mem, layout, stamps);
                 let next = moved.machine;
                 let outcome = moved.outcome;
                 Stepped {

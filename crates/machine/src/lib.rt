@@ -7,6 +7,7 @@ mod interrupt;
 mod judge;
 pub mod laws;
 mod memory;
+mod quick;
 mod registers;
 mod run;
 pub mod state;

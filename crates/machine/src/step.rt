@@ -69,7 +69,7 @@ fn is_hlt(i: Instruction) -> bool
 }
 
 // Where nothing is held, the saved copy is handed back zero.
-fn saved_for(visit: Visit, saved: [u16; 16]) -> [u16; 16]
+pub fn saved_for(visit: Visit, saved: [u16; 16]) -> [u16; 16]
     ensures { λ r. ⌜ r ≡ savedFor visit saved ⌝ }
 {
     match visit {
@@ -82,7 +82,7 @@ fn saved_for(visit: Visit, saved: [u16; 16]) -> [u16; 16]
 }
 
 // A visit is held.
-fn is_held(visit: Visit) -> bool
+pub fn is_held(visit: Visit) -> bool
     ensures { λ r. ⌜ r ≡ isHeld visit ⌝ }
 {
     match visit {

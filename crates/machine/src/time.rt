@@ -5,6 +5,7 @@ ghost use Prim.Native.Nat.{_+_, _≤_, _^_};
 ghost use Rattle.machine.specs.Time.{startTime, happens, happening, earlier, filledBy, alarmLeft, emptied, setAlarm, deviceWord, pass};
 ghost use Rattle.machine.specs.Calls.{timetable};
 ghost use Rattle.machine.specs.Place.{stampAt, Passed, RightPlace, Ready};
+ghost use Rattle.machine.specs.Quick.{Misses, Still};
 use crate::state::Stamp;
 use crate::state::Time;
 
@@ -143,6 +144,43 @@ pub fn wait(t: Time, stamps: &[u64], place: usize, n: u64) -> Time
 {
     let next = advance(stamps, place, t.clock);
     pass(t, stamps, next, n)
+}
+
+// The last clock value up to which a request does not happen: just before it, if it is still to happen.
+fn before_stamp(clock: u64, stamp: Stamp, until: u64) -> u64
+    ensures { λ r. ⌜ (r ≤ until) × Misses clock stamp r ⌝ }
+{
+    match stamp {
+        Stamp::Never => until,
+        Stamp::At(s) => {
+            if s <= clock {
+                return until;
+            }
+            if s <= until {
+                return s - 1;
+            }
+            until
+        }
+    }
+}
+
+// A clock value up to which nothing is pending and no request happens, at most 2^62; 0 where there is none.
+pub fn still_until(halted: bool, t: Time, stamps: &[u64], place: usize) -> u64
+    requires { ⌜ (timetable (now stamps) ≡ true) × RightPlace (now stamps) (t .clock) place ⌝ }
+    ensures { λ r. ⌜ Still (now (stamps .entry)) t r × (halted ≡ true → r ≡ 0) ⌝ }
+{
+    let slot = t.slot;
+    let alarm = t.alarm;
+    if halted {
+        return 0;
+    }
+    match slot {
+        Stamp::At(_) => 0,
+        Stamp::Never => {
+            let until = before_stamp(t.clock, alarm, 0x4000_0000_0000_0000);
+            before_stamp(t.clock, stamp_at(stamps, place), until)
+        }
+    }
 }
 
 // The slot empties.

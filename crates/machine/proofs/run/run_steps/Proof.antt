@@ -2,11 +2,10 @@ use mathlib.Core.Path.{sym, _∙_, ap}
 use Prim.Native.Nat.{_-_}
 use native.Mathlib.Omega.{arith}
 use Rattle.machine.specs.declared.answer.End.the-variants.{Halted, Clock}
-use Rattle.machine.specs.declared.interrupt.Moved.{Moved}
 use Rattle.machine.specs.State.{world}
 use Rattle.machine.specs.Run.{Stop}
 use Rattle.machine.specs.Calls.{stopped}
-use Rattle.machine.proofs.Turns.{Turning, world-by, ending-halted, ending-clock, turning-first, turning-ready, turning-passed, turning-next, turning-stops, turning-spent}
+use Rattle.machine.proofs.Turns.{Turning, ending-halted, ending-clock, turning-first, turning-ready, turning-passed, turning-next, turning-stops, turning-spent}
 use Rattle.machine.proofs.run.run_steps.Statement.{statement}
 use Rattle.machine.proofs.run.run_steps.Tie as tie
 
@@ -23,33 +22,37 @@ first-place-requires c κs = c .before .before .pre .1
 loop-holds : tie.Need-loop-holds Inv-loop μ-loop
 loop-holds c = turning-first _ _ _ _ _ (c .before .before .before .pre .0) (c .first-place .ensures)
 
-take-step-requires : tie.Need-take-step-requires Inv-loop μ-loop
-take-step-requires c κs =
+sub-turn : tie.Need-sub-turn Inv-loop μ-loop
+sub-turn c = let i = c .before .before .before .before .before .loop .inv .within in omega arith
+
+turn-requires : tie.Need-turn-requires Inv-loop μ-loop
+turn-requires c κs =
     let l = c .before .before .before .before .before .loop in
-    (l .inv .size, turning-ready _ _ _ _ _ _ _ (l .inv) (c .before .before .before .before .before .before .before .before .before .pre .1) (c .before .before .if2 .left))
+    let i = l .inv .within in
+    let n = c .before .if3 .left in
+    (l .inv .size, (turning-ready _ _ _ _ _ _ _ (l .inv) (c .before .before .before .before .before .before .before .before .before .pre .1) (c .before .before .if2 .left), (c .before .before .before .before .if1 .left, c .before .before .if2 .left, omega arith)))
 
 advance-requires : tie.Need-advance-requires Inv-loop μ-loop
 advance-requires c κs =
     let l = c .before .before .before .before .before .before .before .before .before .loop in
-    let h = ap (λ (s : Moved). s .machine .time .clock) (c .before .before .before .take-step .ensures .0) in
-    (c .before .before .before .before .before .before .before .before .before .before .before .before .before .pre .1, turning-passed _ _ _ _ _ _ _ (l .inv) (c .before .before .before .before .before .before .before .before .if1 .left) _ h)
+    (c .before .before .before .before .before .before .before .before .before .before .before .before .before .pre .1, turning-passed _ _ _ _ _ _ _ (l .inv) _ (c .before .before .before .turn .ensures .rises))
 
 add-steps : tie.Need-add-steps Inv-loop μ-loop
 add-steps c =
-    let i = c .before .before .before .before .before .before .before .before .before .before .loop .inv .within in
-    omega (arith, c .before .before .before .before .before .before .if3 .left, c .before .before .before .before .before .before .before .before .before .before .before .before .before .before .fits .budget .fits)
+    let i = c .before .before .before .before .before .before .before .before .before .before .before .loop .inv .within in
+    let j = c .before .before .before .before .before .turn .ensures .within in
+    let k = c .before .before .before .before .before .before .before .before .before .before .before .before .before .before .before .fits .budget .fits in
+    omega arith
 
 loop-less : tie.Need-loop-less Inv-loop μ-loop
 loop-less c =
-    let i = c .before .before .before .before .before .before .before .before .before .before .loop .inv .within in
-    omega (arith, c .before .before .before .before .before .before .if3 .left)
+    let i = c .before .before .before .before .before .before .before .before .before .before .before .loop .inv .within in
+    let j = c .before .before .before .before .before .turn .ensures .within in
+    let k = c .before .before .before .before .before .turn .ensures .some in
+    omega arith
 
 loop-again : tie.Need-loop-again Inv-loop μ-loop
-loop-again c =
-    let l = c .before .before .before .before .before .before .before .before .before .before .loop in
-    let e = c .before .before .before .before .take-step .ensures in
-    turning-next _ _ _ _ _ _ _ (l .inv) (c .before .before .before .before .before .before .if3 .left) (c .before .before .before .before .before .before .before .before .before .if1 .left) (c .before .before .before .before .before .before .before .if2 .left) _
-    (world-by (e .0) (e .1)) _ (c .advance .ensures)
+loop-again c = turning-next _ _ _ _ _ _ _ (c .before .before .before .before .before .before .before .before .before .before .before .loop .inv) _ _ (c .before .before .before .before .before .turn .ensures) _ (c .before .advance .ensures)
 
 same-length : tie.Need-same-length Inv-loop μ-loop
 same-length c = c .before .loop .inv .size ∙ sym (c .before .before .before .before .before .pre .0)
@@ -86,7 +89,8 @@ run-steps-spec =
     μ-loop
     first-place-requires
     loop-holds
-    take-step-requires
+    sub-turn
+    turn-requires
     advance-requires
     add-steps
     loop-less

@@ -1,0 +1,88 @@
+-- Up to what clock value nothing happens. Assumes nothing.
+use mathlib.Core.Path.{_≡_, refl, sym, _∙_, ap}
+use mathlib.Core.Bool.{Bool, true, false}
+use mathlib.Core.List.{List}
+use Prim.Native.Nat.{ℕ, _+_, _≤_, _<_}
+use lib.Dec.{ltb}
+use native.Mathlib.Omega.{arith}
+use borrow.Author.Tests.{lt-leb}
+use Rattle.base.specs.Test.{if_then_else_, all}
+use Rattle.base.proofs.Tests.{cases, if-true, if-false}
+use Rattle.machine.specs.declared.state.Stamp.{Stamp}
+use Rattle.machine.specs.declared.state.Stamp.the-variants.{Never, At}
+use Rattle.machine.specs.declared.state.Time.{Time}
+use Rattle.machine.specs.Time.{happens, happening, earlier, request, alarmLeft, pass}
+use Rattle.machine.specs.Run.{lastClock}
+use Rattle.machine.specs.Calls.{timetable}
+use Rattle.machine.specs.Place.{stampAt, RightPlace}
+use Rattle.machine.specs.Quick.{later, Misses, Still}
+use Rattle.machine.specs.Laws.{PassAdds}
+use Rattle.machine.proofs.PassLaws.{pass-adds, filled-never}
+use Rattle.machine.proofs.PlaceLaws.{passed-by, place-earliest}
+
+-- no request, one that has happened, and one that is still to happen
+pub misses-never : (clock until : ℕ) → Misses clock Never until
+unfolding happening
+misses-never clock until b h = refl
+
+pub misses-past : (clock until s : ℕ) → s ≤ clock → Misses clock (At s) until
+misses-past clock until s h b k = passed-by clock b s h
+
+pub misses-ahead : (clock until s : ℕ) → until < s → Misses clock (At s) until
+unfolding happening all if_then_else_
+misses-ahead clock until s h b k = rw (lt-leb s b (omega arith)) (neither (ltb clock s))
+  where
+    neither : (t : Bool) → (if (if t then false else false) then At s else Never) ≡ Never
+    neither true = refl
+    neither false = refl
+
+-- an alarm that does not happen stays
+alarm-stays : (a b : ℕ) (alarm : Stamp) → happening a b alarm ≡ Never → alarmLeft a b alarm ≡ alarm
+unfolding happening alarmLeft
+alarm-stays a b Never e = refl
+alarm-stays a b (At s) e =
+    cases (happens a b s) (λ h. if-true _ _ _ h ∙ sym (sym (if-true _ _ _ h) ∙ e)) (λ h. if-false _ _ _ h)
+
+module _ (stamps : List ℕ) (t : Time) where
+  -- nothing is known to pass
+  pub still-zero : Still stamps t 0
+  still-zero =
+      record { bounded = omega arith; empty = λ n h k. absurd (omega arith); passes = λ n h k. absurd (omega arith) }
+
+  -- an empty slot, and neither the alarm nor the stamp at the clock's place happens
+  module _ (place until : ℕ) (e : t .slot ≡ Never) (small : until ≤ lastClock) (timed : timetable stamps ≡ true)
+      (p : RightPlace stamps (t .clock) place) (a : Misses (t .clock) (t .alarm) until)
+      (s : Misses (t .clock) (stampAt stamps place) until) where
+    none-requested : (b : ℕ) → b ≤ until → request stamps (t .alarm) (t .clock) b ≡ Never
+    unfolding request earlier
+    none-requested b h = rw (place-earliest (t .clock) b stamps place timed p, s b h, a b h)
+
+    pub still-by : Still stamps t until
+    unfolding pass
+    still-by =
+        record {
+          bounded = small;
+          empty = λ n h k. e;
+          passes = λ n h k.
+              rw (none-requested (t .clock + n) k, filled-never (t .slot), alarm-stays (t .clock) (t .clock + n) (t .alarm) (a _ k));
+        }
+
+  -- what holds up to a clock value holds on the way there
+  pub still-later : (until n : ℕ) → Still stamps t until → 1 ≤ n → t .clock + n ≤ until → Still stamps (later n t) until
+  unfolding PassAdds
+  still-later until n s h k =
+      record {
+        bounded = s .bounded;
+        empty = λ m i j. s .empty n h k;
+        passes = λ m i j.
+            ap (pass stamps m) (sym (s .passes n h k)) ∙ pass-adds stamps n m t ∙ s .passes (n + m) (omega arith) (omega arith)
+            ∙ sooner-later m;
+      }
+    where
+      sooner-later : (m : ℕ) → later (n + m) t ≡ later m (later n t)
+      sooner-later m =
+          let e : t .clock + (n + m) ≡ t .clock + n + m = omega arith in
+          ap (λ (c : ℕ). at c) e
+        where
+          at : ℕ → Time
+          at c = record { clock = c; slot = t .slot; alarm = t .alarm }

@@ -1,0 +1,253 @@
+// The quick way of a step: a common instruction, where no request is near. Registers are changed where they lie.
+ghost use mathlib.Core.Path.{_≡_};
+ghost use Prim.Native.Nat.{_≤_};
+ghost use lib.ListN.{length};
+ghost use Rattle.alu.specs.declared.arithmetic.Computed.{Computed};
+ghost use Rattle.alu.specs.Arithmetic.{computed};
+ghost use Rattle.machine.specs.State.{world};
+ghost use Rattle.machine.specs.Place.{Ready};
+ghost use Rattle.machine.specs.Quick.{fetched, leading, setting, computing, branching, loading, constant, storing, quick, putIf, Leads};
+use crate::memory::put_word;
+use crate::memory::word_at;
+use crate::state::Machine;
+use crate::step::is_held;
+use crate::step::saved_for;
+use crate::time::advance;
+use crate::time::still_until;
+use alu::arithmetic::compute;
+use alu::status::set_flags;
+use alu::status::zero_is_set;
+use base::test::both;
+use base::word::drop_bit_0;
+use base::word::sum;
+use isa::instruction::Operation;
+use isa::read::Begun;
+use isa::table::Row;
+use layout::access::Right;
+use layout::sections::Layout;
+
+// What a quick step sets, in this order: pc, one more register by its number, the status; whether it puts its source; its cycles.
+pub struct Effect {
+    pub to: u16,
+    pub number: u8,
+    pub word: u16,
+    pub status: u16,
+    pub puts: bool,
+    pub cycles: u64,
+}
+
+// An instruction that is left to the step, or what it does.
+pub enum Quick {
+    Rare,
+    Does(Effect),
+}
+
+// How far a machine went by quick steps.
+pub struct Went {
+    pub machine: Machine,
+    pub steps: u64,
+}
+
+// What the word at pc begins, if it may be executed.
+fn fetch(layout: Layout, held: bool, mem: &[u8], previous: u16, pc: u16) -> Begun
+    requires { ⌜ length (now mem) ≡ 65536 ⌝ }
+    ensures { λ r. ⌜ r ≡ fetched layout held (now (mem .entry)) previous pc ⌝ }
+{
+    if !layout.may(previous, Right::Execute, pc) {
+        return Begun::Nothing;
+    }
+    if both(layout.inside(pc), held) {
+        return Begun::Nothing;
+    }
+    Begun::begin(word_at(mem, pc))
+}
+
+// Only pc is set.
+fn lead(to: u16, status: u16, puts: bool, cycles: u64) -> Quick
+    ensures { λ r. ⌜ r ≡ leading to status puts cycles ⌝ }
+{
+    Quick::Does(Effect {
+        to: to,
+        number: 0,
+        word: to,
+        status: status,
+        puts: puts,
+        cycles: cycles,
+    })
+}
+
+// A register above r3 is set.
+fn set_general(to: u16, d: u8, w: u16, status: u16, cycles: u64) -> Quick
+    ensures { λ r. ⌜ r ≡ setting to d w status cycles ⌝ }
+{
+    if d < 4 {
+        return Quick::Rare;
+    }
+    Quick::Does(Effect {
+        to: to,
+        number: d,
+        word: w,
+        status: status,
+        puts: false,
+        cycles: cycles,
+    })
+}
+
+// ADD, SUB, CMP, AND.
+fn quick_compute(a: u16, status: u16, x: u16, y: u16, o: Operation, d: u8) -> Quick
+    ensures { λ r. ⌜ r ≡ computing a status o d (computed o x y) ⌝ }
+{
+    let c = compute(o, x, y);
+    let next = sum(a, 2);
+    match o {
+        Operation::Add => set_general(next, d, c.result, set_flags(status, c), 1),
+        Operation::Sub => set_general(next, d, c.result, set_flags(status, c), 1),
+        Operation::Cmp => lead(next, set_flags(status, c), false, 1),
+        Operation::And => set_general(next, d, c.result, set_flags(status, c), 1),
+    }
+}
+
+// JZ.
+fn quick_branch(a: u16, status: u16, x: u16) -> Quick
+    ensures { λ r. ⌜ r ≡ branching a status x ⌝ }
+{
+    if zero_is_set(status) {
+        return lead(drop_bit_0(x), status, false, 2);
+    }
+    lead(sum(a, 2), status, false, 2)
+}
+
+// MOV @s d.
+fn quick_load(a: u16, status: u16, x: u16, layout: Layout, mem: &[u8], d: u8) -> Quick
+    requires { ⌜ length (now mem) ≡ 65536 ⌝ }
+    ensures { λ r. ⌜ r ≡ loading a status layout (now (mem .entry)) x d ⌝ }
+{
+    if layout.may(a, Right::Read, drop_bit_0(x)) {
+        return set_general(sum(a, 2), d, word_at(mem, x), status, 2);
+    }
+    Quick::Rare
+}
+
+// MOV #w d.
+fn quick_constant(a: u16, status: u16, layout: Layout, mem: &[u8], d: u8) -> Quick
+    requires { ⌜ length (now mem) ≡ 65536 ⌝ }
+    ensures { λ r. ⌜ r ≡ constant a status layout (now (mem .entry)) d ⌝ }
+{
+    let second = sum(a, 2);
+    if layout.same_side(a, second) {
+        return set_general(sum(a, 4), d, word_at(mem, second), status, 2);
+    }
+    Quick::Rare
+}
+
+// MOV s 0(d).
+fn quick_store(a: u16, status: u16, y: u16, layout: Layout, mem: &[u8]) -> Quick
+    requires { ⌜ length (now mem) ≡ 65536 ⌝ }
+    ensures { λ r. ⌜ r ≡ storing a status layout (now (mem .entry)) y ⌝ }
+{
+    let second = sum(a, 2);
+    if !layout.same_side(a, second) {
+        return Quick::Rare;
+    }
+    if word_at(mem, second) != 0 {
+        return Quick::Rare;
+    }
+    if layout.may(a, Right::Write, drop_bit_0(y)) {
+        return lead(sum(a, 4), status, true, 4);
+    }
+    Quick::Rare
+}
+
+// What the instruction at a does, with the status, its source x and its destination y.
+fn quick_effect(
+    a: u16,
+    status: u16,
+    x: u16,
+    y: u16,
+    layout: Layout,
+    mem: &[u8],
+    row: Row,
+    d: u8,
+) -> Quick
+    requires { ⌜ length (now mem) ≡ 65536 ⌝ }
+    ensures { λ r. ⌜ r ≡ quick a status layout (now (mem .entry)) x y row d ⌝ }
+{
+    match row {
+        Row::Hlt => Quick::Rare,
+        Row::In => Quick::Rare,
+        Row::Out => Quick::Rare,
+        Row::Jz => quick_branch(a, status, x),
+        Row::Reti => Quick::Rare,
+        Row::Nop => lead(sum(a, 2), status, false, 1),
+        Row::Jmp => lead(drop_bit_0(x), status, false, 2),
+        Row::Mov => set_general(sum(a, 2), d, x, status, 1),
+        Row::Load => quick_load(a, status, x, layout, mem, d),
+        Row::Store => quick_store(a, status, y, layout, mem),
+        Row::Immediate => quick_constant(a, status, layout, mem, d),
+        Row::Compute(o) => quick_compute(a, status, x, y, o, d),
+        Row::Not => Quick::Rare,
+    }
+}
+
+// Puts a word, if one is to be put.
+fn put_if(puts: bool, mem: &mut [u8], a: u16, w: u16)
+    requires { ⌜ length (now mem) ≡ 65536 ⌝ }
+    ensures { λ _. ⌜ now (mem .exit) ≡ putIf puts (now (mem .entry)) a w ⌝ }
+{
+    if puts {
+        put_word(mem, a, w);
+    }
+}
+
+// Quick steps, as many as there are and as are left.
+pub fn quick_steps(
+    m: Machine,
+    mem: &mut [u8],
+    layout: Layout,
+    stamps: &[u64],
+    place: usize,
+    left: u64,
+) -> Went
+    requires { ⌜ length (now mem) ≡ 65536 ⌝ }
+    requires { ⌜ Ready (now stamps) (m .time .clock) place 300 ⌝ }
+    ensures { λ r. ⌜ Leads layout (now (stamps .entry)) (world m (now (mem .entry))) (r .steps) (world (r .machine) (now (mem .exit))) ⌝ }
+    ensures { λ r. ⌜ r .steps ≤ left ⌝ }
+{
+    let time = m.time;
+    let visit = m.visit;
+    let saved = m.saved;
+    let held = is_held(visit);
+    let kept = saved_for(visit, saved);
+    let until = still_until(m.halted, time, stamps, advance(stamps, place, time.clock));
+    let mut current = m;
+    let mut steps: u64 = 0;
+    while steps < left {
+        let clock = current.time.clock;
+        if until < clock + 5 {
+            break;
+        }
+        let pc = current.registers[0];
+        let Begun::Found(row, s, d) = fetch(layout, held, mem, current.previous, pc) else {
+            break;
+        };
+        let x = current.registers[(s % 16) as usize];
+        let y = current.registers[(d % 16) as usize];
+        let Quick::Does(e) = quick_effect(pc, current.registers[2], x, y, layout, mem, row, d)
+        else {
+            break;
+        };
+        let n = (e.number % 16) as usize;
+        put_if(e.puts, mem, y, x);
+        current.registers[0] = e.to;
+        current.registers[n] = e.word;
+        current.registers[2] = e.status;
+        current.previous = pc;
+        current.time.clock = clock + e.cycles;
+        current.saved = kept;
+        steps += 1;
+    }
+    Went {
+        machine: current,
+        steps: steps,
+    }
+}
