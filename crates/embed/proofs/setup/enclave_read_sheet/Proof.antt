@@ -1,0 +1,69 @@
+use mathlib.Core.Path.{refl, sym, _∙_, ap}
+use Rattle.embed.specs.Setup.{sheetRefusal, refusedLine, setLayout, setCount, setBudget}
+use Rattle.embed.proofs.KeptLaws.{kept, given}
+use borrow.Author.Needs.{needs}
+use Rattle.embed.proofs.setup.enclave_read_sheet.Statement.{statement}
+use Rattle.embed.proofs.setup.enclave_read_sheet.Tie as tie
+
+read-sheet-requires : tie.Need-read-sheet-requires
+read-sheet-requires c κs = search needs
+
+enum-known-refusal : tie.Need-enum-known-refusal
+enum-known-refusal c = search needs
+
+number-requires : tie.Need-number-requires
+number-requires c κs = search needs
+
+enum-known-setup : tie.Need-enum-known-setup
+enum-known-setup c = search needs
+
+load-memory-requires : tie.Need-load-memory-requires
+load-memory-requires c κs = search needs
+
+load-stamps-requires : tie.Need-load-stamps-requires
+load-stamps-requires c κs = search needs
+
+layout-fields-requires : tie.Need-layout-fields-requires
+layout-fields-requires c κs = search needs
+
+returns : tie.Need-returns
+returns c =
+    let e = sym (c .before .before .refusal .given .1) ∙ c .before .before .before .before .read-sheet .ensures in
+    let n = c .number .ensures in
+    let r = c .before .before .refusal .given .0 .0 in (
+      n ∙ ap sheetRefusal e,
+      (
+        kept _ r n _ _,
+        (kept _ r n _ _, (kept _ r n _ _, (kept _ r n _ _, (kept _ r n _ _, ap refusedLine e ∙ kept _ r n _ _)))),
+      ),
+    )
+
+returns-2 : tie.Need-returns-2
+returns-2 c =
+    let e = sym (c .before .before .before .before .before .before .setup .given .1) ∙ c .before .before .before .before .before .before .before .before .read-sheet .ensures in (
+      ap sheetRefusal e,
+      (
+        given _ _ (c .before .before .before .load-memory .ensures .0),
+        (
+          given _ _ (c .before .load-stamps .ensures),
+          (
+            given _ _ (c .layout-fields .ensures ∙ ap setLayout e),
+            (given _ _ (ap setCount e), (given _ _ (ap setBudget e), given _ _ refl)),
+          ),
+        ),
+      ),
+    )
+
+pub enclave-read-sheet-spec : {M : Type 1} → statement M
+enclave-read-sheet-spec =
+    tie.close
+    (tie.spec
+    read-sheet-requires
+    enum-known-refusal
+    number-requires
+    enum-known-setup
+    load-memory-requires
+    load-stamps-requires
+    layout-fields-requires
+    returns
+    returns-2)

@@ -1,0 +1,7 @@
+// The machine for programs in other languages: exported functions over lent numbers and bytes.
+pub mod access;
+pub mod calls;
+pub mod instruction;
+pub mod laws;
+pub mod setup;
+mod state;
