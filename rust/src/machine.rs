@@ -1,0 +1,189 @@
+//! The machine: start, step, run.
+
+use std::num::NonZeroU64;
+
+use crate::ffi;
+use crate::state::State;
+use crate::{
+    Budget, End, Kind, Layout, MachineFields, Refusal, Register, SavedContext, Status, Timetable,
+    MEMORY_SIZE,
+};
+
+/// A machine beside its memory. It keeps the layout that it was started with, so its state is
+/// always one that a machine of that layout can be in.
+#[derive(Clone, Debug, PartialEq, Eq, Hash)]
+pub struct Machine {
+    layout: Layout,
+    state: State,
+}
+
+/// Why a run stopped, and how many steps it made.
+#[derive(Clone, Copy, Debug, PartialEq, Eq, Hash)]
+pub struct Stop {
+    /// Why it stopped.
+    pub end: End,
+    /// How many steps it made.
+    pub steps: u64,
+}
+
+impl Machine {
+    /// The start state of a memory: clock 0, registers 0 but pc, which is the word at FFFE less its
+    /// bit 0.
+    pub fn start(layout: Layout, memory: &[u8; MEMORY_SIZE]) -> Machine {
+        let mut state = State::default();
+        // SAFETY: the four parts of the state are apart and of their types' sizes; memory points to
+        // MEMORY_SIZE bytes and is only read.
+        let answer = unsafe {
+            ffi::enclave_start(
+                &mut state.registers,
+                &mut state.saved,
+                &mut state.control,
+                &mut state.time,
+                memory.as_ptr(),
+                memory.len(),
+            )
+        };
+        Refusal::taken(answer).expect("memory is 65,536 bytes");
+        Machine { layout, state }
+    }
+
+    /// One step, and what it did. Refused, with machine and memory as they were, only by *clock*.
+    pub fn step(
+        &mut self,
+        memory: &mut [u8; MEMORY_SIZE],
+        timetable: &Timetable<'_>,
+    ) -> Result<Kind, Refusal> {
+        let stamps = timetable.stamps();
+        let (mut kind, mut cause) = (0, 0);
+        // SAFETY: the parts of the state, memory, kind and cause are exclusive references, so they
+        // are apart; layout and stamps are only read; each size beside a pointer is its slice's.
+        let answer = unsafe {
+            ffi::enclave_step(
+                &mut self.state.registers,
+                &mut self.state.saved,
+                &mut self.state.control,
+                &mut self.state.time,
+                memory.as_mut_ptr(),
+                memory.len(),
+                &self.layout.addresses,
+                stamps.as_ptr(),
+                stamps.len(),
+                &mut kind,
+                &mut cause,
+            )
+        };
+        Refusal::taken(answer)?;
+        Ok(Kind::told(kind, cause))
+    }
+
+    /// Steps until the machine is halted, its clock is above 2^62 or the budget is spent. Refused,
+    /// with machine and memory as they were, only by *clock*.
+    pub fn run(
+        &mut self,
+        memory: &mut [u8; MEMORY_SIZE],
+        timetable: &Timetable<'_>,
+        budget: Budget,
+    ) -> Result<Stop, Refusal> {
+        let stamps = timetable.stamps();
+        let (mut end, mut steps) = (0, 0);
+        // SAFETY: as in step; end and steps are exclusive references too.
+        let answer = unsafe {
+            ffi::enclave_run(
+                &mut self.state.registers,
+                &mut self.state.saved,
+                &mut self.state.control,
+                &mut self.state.time,
+                memory.as_mut_ptr(),
+                memory.len(),
+                &self.layout.addresses,
+                stamps.as_ptr(),
+                stamps.len(),
+                budget.steps(),
+                &mut end,
+                &mut steps,
+            )
+        };
+        Refusal::taken(answer)?;
+        let end = End::told(end);
+        Ok(Stop { end, steps })
+    }
+
+    /// The machine of these fields, or refusal *frame* where no machine of this layout can be in
+    /// that state. The library decides. A clock above 2^62 is taken, as a run may end there; such a
+    /// machine's next step is refused.
+    pub fn from_fields(layout: Layout, fields: &MachineFields) -> Result<Machine, Refusal> {
+        let state = State::of(fields);
+        let mut machine = Machine { layout, state };
+        // A run of budget 0 tests the frame, then the clock, and makes no step on this memory.
+        let mut memory = [0; MEMORY_SIZE];
+        match machine.run(&mut memory, &Timetable::empty(), Budget::NONE) {
+            Ok(_) | Err(Refusal::Clock) => Ok(machine),
+            Err(refusal) => Err(refusal),
+        }
+    }
+
+    /// All fields of its state, to be kept.
+    pub fn fields(&self) -> MachineFields {
+        self.state.fields()
+    }
+
+    /// The layout that it was started with.
+    pub fn layout(&self) -> Layout {
+        self.layout
+    }
+
+    /// r0 to r15.
+    pub fn registers(&self) -> &[u16; 16] {
+        &self.state.registers
+    }
+
+    /// One register.
+    pub fn register(&self, register: Register) -> u16 {
+        self.state.registers[usize::from(register.number())]
+    }
+
+    /// The program counter, r0.
+    pub fn pc(&self) -> u16 {
+        self.register(Register::PC)
+    }
+
+    /// The stack pointer, r1.
+    pub fn sp(&self) -> u16 {
+        self.register(Register::SP)
+    }
+
+    /// The status, r2.
+    pub fn status(&self) -> Status {
+        Status::of(self.register(Register::SR))
+    }
+
+    /// Cycles from the start.
+    pub fn clock(&self) -> u64 {
+        self.state.clock()
+    }
+
+    /// The previous instruction's address.
+    pub fn previous(&self) -> u16 {
+        self.state.previous()
+    }
+
+    /// The machine is halted.
+    pub fn is_halted(&self) -> bool {
+        self.state.is_halted()
+    }
+
+    /// The stamp of the pending request.
+    pub fn pending(&self) -> Option<NonZeroU64> {
+        self.state.pending()
+    }
+
+    /// The stamp of the alarm.
+    pub fn alarm(&self) -> Option<NonZeroU64> {
+        self.state.alarm()
+    }
+
+    /// The saved context of the held visit of the enclave module.
+    pub fn held(&self) -> Option<SavedContext> {
+        self.state.held()
+    }
+}

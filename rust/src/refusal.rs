@@ -1,0 +1,84 @@
+//! The numbered refusals.
+
+use std::error::Error;
+use std::fmt;
+
+/// Why a call is refused. A refused call leaves machine and memory as they were.
+#[derive(Clone, Copy, Debug, PartialEq, Eq, PartialOrd, Ord, Hash)]
+#[repr(u8)]
+pub enum Refusal {
+    /// 1: memory isn't 65,536 bytes.
+    Map = 1,
+    /// 2: a rule of the layout is broken.
+    Fence = 2,
+    /// 3: the stamps are too many, out of range or not rising.
+    Timetable = 3,
+    /// 4: the state is one that no machine of this layout can be in.
+    Frame = 4,
+    /// 5: the budget is above 1,000,000.
+    Distance = 5,
+    /// 6: the clock is above 2^62.
+    Clock = 6,
+    /// 7: a line of the sheet can't be read.
+    Line = 7,
+    /// 8: the sheet has more than 32,768 bytes.
+    Sheet = 8,
+    /// 9: no such instruction.
+    Word = 9,
+}
+
+impl Refusal {
+    /// All nine, in the order in which a call tries them.
+    pub const ALL: [Refusal; 9] = [
+        Refusal::Map,
+        Refusal::Fence,
+        Refusal::Timetable,
+        Refusal::Frame,
+        Refusal::Distance,
+        Refusal::Clock,
+        Refusal::Line,
+        Refusal::Sheet,
+        Refusal::Word,
+    ];
+
+    /// Its number, 1 to 9.
+    pub const fn number(self) -> u8 {
+        self as u8
+    }
+
+    /// The refusal of a number.
+    pub fn from_number(number: u8) -> Option<Refusal> {
+        Refusal::ALL.into_iter().find(|r| r.number() == number)
+    }
+
+    /// Its word.
+    pub const fn word(self) -> &'static str {
+        match self {
+            Refusal::Map => "map",
+            Refusal::Fence => "fence",
+            Refusal::Timetable => "timetable",
+            Refusal::Frame => "frame",
+            Refusal::Distance => "distance",
+            Refusal::Clock => "clock",
+            Refusal::Line => "line",
+            Refusal::Sheet => "sheet",
+            Refusal::Word => "word",
+        }
+    }
+
+    // What a function of the library answered: 0, or a refusal's number.
+    pub(crate) fn taken(answer: u8) -> Result<(), Refusal> {
+        match answer {
+            0 => Ok(()),
+            number => Err(Refusal::from_number(number).expect("an answer is 0 to 9")),
+        }
+    }
+}
+
+impl fmt::Display for Refusal {
+    fn fmt(&self, f: &mut fmt::Formatter<'_>) -> fmt::Result {
+        f.write_str(self.word())
+    }
+}
+
+impl Error for Refusal {}
