@@ -8,11 +8,12 @@ use crate::time::{LAST_STAMP, MOST_STAMPS};
 /// Refusal 8: "above 32,768 bytes".
 const MOST_SHEET_BYTES: usize = 32_768;
 
-struct Sheet {
-    layout: Layout,
-    memory: Vec<u8>,
-    stamps: Vec<u64>,
-    budget: u64,
+/// What a sheet sets up.
+pub struct Sheet {
+    pub layout: Layout,
+    pub memory: Vec<u8>,
+    pub stamps: Vec<u64>,
+    pub budget: u64,
 }
 
 /// The whole transcript, or the E line: "A refusal prints only E, number,
@@ -63,7 +64,7 @@ fn decimal(field: &[u8]) -> Option<u64> {
 /// or A, stamp; last G, budget." The error is refusal number and line: "On a
 /// sheet 8 comes before all, then the earlier line, then on one line 7 before
 /// the rest."
-fn read_sheet(sheet: &[u8]) -> Result<Sheet, (u8, usize)> {
+pub fn read_sheet(sheet: &[u8]) -> Result<Sheet, (u8, usize)> {
     if sheet.len() > MOST_SHEET_BYTES {
         return Err((8, 0));
     }
