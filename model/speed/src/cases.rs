@@ -19,15 +19,6 @@ pub struct Case {
     pub turns: u64,
 }
 
-impl Case {
-    /// The case that other tools run too.
-    pub fn is_plain(&self) -> bool {
-        self.what == PLAIN
-    }
-}
-
-const PLAIN: &str = "run, plain loop";
-
 /// The most stamps, and a few.
 const MANY: u64 = 4_096;
 const FEW: u64 = 64;
@@ -40,6 +31,7 @@ fn stamps(count: u64, after: u64) -> Vec<u64> {
 /// Later than any run here.
 const FAR: u64 = 1 << 40;
 
+/// All cases; the first is the loop that other tools run too.
 pub fn cases() -> Vec<Case> {
     let mut cases = plain_runs();
     cases.extend(module_runs());
@@ -70,7 +62,13 @@ fn plain_runs() -> Vec<Case> {
     };
     let all = stamps(MANY, 0);
     vec![
-        case(PLAIN, world(Vec::new(), 0), long, 1),
+        case("run, plain loop", world(Vec::new(), 0), long, 1),
+        case(
+            "run, plain loop, a request pending",
+            world(vec![1], 0),
+            run(1_000_000),
+            2,
+        ),
         case(
             "run, plain loop, 4,096 stamps ahead",
             world(stamps(MANY, FAR), 0),
@@ -102,13 +100,13 @@ fn module_runs() -> Vec<Case> {
     vec![
         case("run, through the module", world(Vec::new()), long, 1),
         case(
-            "run, module, 4,096 pulses, each 50 cycles",
+            "run, module, a pulse each 50 cycles, 4,096",
             world(stamps(MANY, 0)),
             run(MODULE_STEPS * MANY),
             4,
         ),
         case(
-            "run, module, 64 pulses, each 50 cycles",
+            "run, module, a pulse each 50 cycles, 64",
             world(stamps(FEW, 0)),
             run(MODULE_STEPS * FEW),
             1_000,
@@ -117,7 +115,7 @@ fn module_runs() -> Vec<Case> {
 }
 
 /// Steps from one pulse to the next.
-const MODULE_STEPS: u64 = 12;
+const MODULE_STEPS: u64 = 17;
 
 /// Step calls.
 fn steps() -> Vec<Case> {

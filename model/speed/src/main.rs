@@ -45,16 +45,14 @@ fn all(bench: &std::path::Path) -> Result<(), String> {
         measure::ROUNDS
     );
     println!("{}", table::heading());
-    let mut plain = 0.0;
+    let mut plain = None;
     for case in cases::cases() {
         let row = measure::row(&case)?;
-        if case.is_plain() {
-            plain = row.library;
-        }
+        plain.get_or_insert(row.library);
         println!("{}", table::line(&row));
     }
     println!("{}", bench::rows(bench)?);
-    println!("{}", mspdebug::row(plain)?);
+    println!("{}", mspdebug::row(plain.unwrap_or(f64::NAN))?);
     println!("{}", size::row());
     Ok(())
 }
