@@ -1,6 +1,6 @@
 //! The access question.
 
-use crate::ffi;
+use crate::raw;
 use crate::{Layout, Refusal};
 
 /// What an instruction may do to a byte.
@@ -35,8 +35,6 @@ impl Layout {
 // Asks the library, which refuses a broken layout.
 pub(crate) fn ask(addresses: &[u16; 5], from: u16, address: u16) -> Result<Rights, Refusal> {
     let mut sum = 0;
-    // SAFETY: both pointers come from references to what their types say; they are apart.
-    let answer = unsafe { ffi::enclave_access(addresses, from, address, &mut sum) };
-    Refusal::taken(answer)?;
+    Refusal::taken(raw::access(addresses, from, address, &mut sum))?;
     Ok(Rights::of_sum(sum))
 }

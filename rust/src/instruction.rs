@@ -1,6 +1,6 @@
 //! One instruction: read from its words, written as its words.
 
-use crate::ffi;
+use crate::raw;
 use crate::{Refusal, Register};
 
 /// What a two-register instruction computes; the destination is its left operand.
@@ -80,9 +80,7 @@ impl Instruction {
     /// second word beyond that length isn't looked at.
     pub fn read(first: u16, second: u16) -> Result<(Instruction, usize), Refusal> {
         let (mut fields, mut length) = ([0; 4], 0);
-        // SAFETY: both pointers come from exclusive references to what their types say.
-        let answer = unsafe { ffi::enclave_read(first, second, &mut fields, &mut length) };
-        Refusal::taken(answer)?;
+        Refusal::taken(raw::read(first, second, &mut fields, &mut length))?;
         Ok((Instruction::decoded(fields), usize::from(length)))
     }
 
@@ -90,9 +88,7 @@ impl Instruction {
     pub fn write(self) -> Result<Words, Refusal> {
         let (mut first, mut second, mut length) = (0, 0, 0);
         let fields = self.encoded();
-        // SAFETY: all pointers come from references to what their types say; they are apart.
-        let answer = unsafe { ffi::enclave_write(&fields, &mut first, &mut second, &mut length) };
-        Refusal::taken(answer)?;
+        Refusal::taken(raw::write(&fields, &mut first, &mut second, &mut length))?;
         Ok(Words::told(first, second, length))
     }
 }

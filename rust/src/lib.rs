@@ -41,13 +41,14 @@
 mod access;
 mod budget;
 mod encoding;
-pub mod ffi;
+mod ffi;
 mod fields;
 mod instruction;
 mod layout;
 mod machine;
 mod memory;
 mod outcome;
+pub mod raw;
 mod refusal;
 mod register;
 mod sheet;

@@ -2,8 +2,7 @@
 
 use std::num::NonZeroU64;
 
-use crate::ffi;
-use crate::state::State;
+use crate::raw::Numbers;
 use crate::{
     Budget, End, Kind, Layout, MachineFields, Refusal, Register, SavedContext, Status, Timetable,
     MEMORY_SIZE,
@@ -14,7 +13,7 @@ use crate::{
 #[derive(Clone, Debug, PartialEq, Eq, Hash)]
 pub struct Machine {
     layout: Layout,
-    state: State,
+    state: Numbers,
 }
 
 /// Why a run stopped, and how many steps it made.
@@ -30,20 +29,8 @@ impl Machine {
     /// The start state of a memory: clock 0, registers 0 but pc, which is the word at FFFE less its
     /// bit 0.
     pub fn start(layout: Layout, memory: &[u8; MEMORY_SIZE]) -> Machine {
-        let mut state = State::default();
-        // SAFETY: the four parts of the state are apart and of their types' sizes; memory points to
-        // MEMORY_SIZE bytes and is only read.
-        let answer = unsafe {
-            ffi::enclave_start(
-                &mut state.registers,
-                &mut state.saved,
-                &mut state.control,
-                &mut state.time,
-                memory.as_ptr(),
-                memory.len(),
-            )
-        };
-        Refusal::taken(answer).expect("memory is 65,536 bytes");
+        let mut state = Numbers::default();
+        Refusal::taken(state.start(memory)).expect("memory is 65,536 bytes");
         Machine { layout, state }
     }
 
@@ -53,25 +40,11 @@ impl Machine {
         memory: &mut [u8; MEMORY_SIZE],
         timetable: &Timetable<'_>,
     ) -> Result<Kind, Refusal> {
-        let stamps = timetable.stamps();
+        let (addresses, stamps) = (&self.layout.addresses, timetable.stamps());
         let (mut kind, mut cause) = (0, 0);
-        // SAFETY: the parts of the state, memory, kind and cause are exclusive references, so they
-        // are apart; layout and stamps are only read; each size beside a pointer is its slice's.
-        let answer = unsafe {
-            ffi::enclave_step(
-                &mut self.state.registers,
-                &mut self.state.saved,
-                &mut self.state.control,
-                &mut self.state.time,
-                memory.as_mut_ptr(),
-                memory.len(),
-                &self.layout.addresses,
-                stamps.as_ptr(),
-                stamps.len(),
-                &mut kind,
-                &mut cause,
-            )
-        };
+        let answer = self
+            .state
+            .step(memory, addresses, stamps, &mut kind, &mut cause);
         Refusal::taken(answer)?;
         Ok(Kind::told(kind, cause))
     }
@@ -84,25 +57,12 @@ impl Machine {
         timetable: &Timetable<'_>,
         budget: Budget,
     ) -> Result<Stop, Refusal> {
-        let stamps = timetable.stamps();
+        let (addresses, stamps) = (&self.layout.addresses, timetable.stamps());
         let (mut end, mut steps) = (0, 0);
-        // SAFETY: as in step; end and steps are exclusive references too.
-        let answer = unsafe {
-            ffi::enclave_run(
-                &mut self.state.registers,
-                &mut self.state.saved,
-                &mut self.state.control,
-                &mut self.state.time,
-                memory.as_mut_ptr(),
-                memory.len(),
-                &self.layout.addresses,
-                stamps.as_ptr(),
-                stamps.len(),
-                budget.steps(),
-                &mut end,
-                &mut steps,
-            )
-        };
+        let budget = budget.steps();
+        let answer = self
+            .state
+            .run(memory, addresses, stamps, budget, &mut end, &mut steps);
         Refusal::taken(answer)?;
         let end = End::told(end);
         Ok(Stop { end, steps })
@@ -112,7 +72,7 @@ impl Machine {
     /// that state. The library decides. A clock above 2^62 is taken, as a run may end there; such a
     /// machine's next step is refused.
     pub fn from_fields(layout: Layout, fields: &MachineFields) -> Result<Machine, Refusal> {
-        let state = State::of(fields);
+        let state = Numbers::of(fields);
         let mut machine = Machine { layout, state };
         // A run of budget 0 tests the frame, then the clock, and makes no step on this memory.
         let mut memory = [0; MEMORY_SIZE];

@@ -3,8 +3,8 @@
 use std::error::Error;
 use std::fmt;
 
-use crate::ffi;
-use crate::{Budget, Layout, Machine, Memory, Refusal, Timetable, MOST_STAMPS};
+use crate::raw::Places;
+use crate::{Budget, Layout, Machine, Memory, Refusal, Timetable};
 
 /// What a sheet sets up.
 #[derive(Clone, Debug, PartialEq, Eq)]
@@ -31,15 +31,18 @@ pub struct SheetRefusal {
 impl Setup {
     /// What a sheet sets up, or the refusal of its first bad line.
     pub fn read(sheet: &[u8]) -> Result<Setup, SheetRefusal> {
-        let mut memory = Memory::zeroed();
-        let mut stamps = vec![0; MOST_STAMPS];
-        let told = read_into(sheet, &mut memory, &mut stamps)?;
-        stamps.truncate(told.count);
+        let (mut places, mut line) = (Places::zeroed(), 0);
+        Refusal::taken(places.read(sheet, &mut line))
+            .map_err(|refusal| SheetRefusal { refusal, line })?;
+        let count = usize::try_from(places.count).expect("at most 4,096 stamps");
+        let stamps = places.stamps[..count].to_vec();
         Ok(Setup {
-            layout: told.layout,
-            memory,
+            layout: Layout {
+                addresses: places.layout,
+            },
+            memory: places.memory.into(),
             timetable: Timetable::new(stamps).expect("the library took the stamps"),
-            budget: told.budget,
+            budget: Budget::new(places.budget).expect("the library took the budget"),
         })
     }
 
@@ -47,40 +50,6 @@ impl Setup {
     pub fn start(&self) -> Machine {
         Machine::start(self.layout, &self.memory)
     }
-}
-
-// What the library tells of a sheet beside memory and stamps.
-struct Told {
-    layout: Layout,
-    count: usize,
-    budget: Budget,
-}
-
-// Lets the library read a sheet into this memory and these stamps, which are MOST_STAMPS many.
-fn read_into(sheet: &[u8], memory: &mut Memory, stamps: &mut [u64]) -> Result<Told, SheetRefusal> {
-    let stamps: &mut [u64; MOST_STAMPS] = stamps.try_into().expect("4,096 places");
-    let mut addresses = [0; 5];
-    let (mut count, mut budget, mut line) = (0, 0, 0);
-    // SAFETY: sheet is only read, and its size is the slice's; the others are exclusive references
-    // to what their types say, so they are apart.
-    let answer = unsafe {
-        ffi::enclave_read_sheet(
-            sheet.as_ptr(),
-            sheet.len(),
-            &mut **memory,
-            stamps,
-            &mut addresses,
-            &mut count,
-            &mut budget,
-            &mut line,
-        )
-    };
-    Refusal::taken(answer).map_err(|refusal| SheetRefusal { refusal, line })?;
-    Ok(Told {
-        layout: Layout { addresses },
-        count: count.try_into().expect("at most 4,096 stamps"),
-        budget: Budget::new(budget).expect("the library took the budget"),
-    })
 }
 
 impl fmt::Display for SheetRefusal {

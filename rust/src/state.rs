@@ -1,22 +1,13 @@
-//! The state of a machine as the numbers that the library is lent.
+//! The fields of a machine in the numbers that the library is lent, both ways.
 
 use std::num::NonZeroU64;
 
+use crate::raw::Numbers;
 use crate::{MachineFields, SavedContext};
 
-// control is: previous address, halted, held, held previous address, held age; time is: clock,
-// pending, alarm.
-#[derive(Clone, Debug, Default, PartialEq, Eq, Hash)]
-pub(crate) struct State {
-    pub registers: [u16; 16],
-    pub saved: [u16; 16],
-    pub control: [u16; 5],
-    pub time: [u64; 3],
-}
-
-impl State {
+impl Numbers {
     // The numbers of these fields; 0 stands for none.
-    pub fn of(fields: &MachineFields) -> State {
+    pub(crate) fn of(fields: &MachineFields) -> Numbers {
         let (saved, held) = match &fields.held {
             None => ([0; 16], [0, 0, 0]),
             Some(context) => (
@@ -25,7 +16,7 @@ impl State {
             ),
         };
         let halted = u16::from(fields.halted);
-        State {
+        Numbers {
             registers: fields.registers,
             saved,
             control: [fields.previous, halted, held[0], held[1], held[2]],
@@ -33,7 +24,7 @@ impl State {
         }
     }
 
-    pub fn fields(&self) -> MachineFields {
+    pub(crate) fn fields(&self) -> MachineFields {
         MachineFields {
             registers: self.registers,
             previous: self.previous(),
@@ -45,15 +36,15 @@ impl State {
         }
     }
 
-    pub fn previous(&self) -> u16 {
+    pub(crate) fn previous(&self) -> u16 {
         self.control[0]
     }
 
-    pub fn is_halted(&self) -> bool {
+    pub(crate) fn is_halted(&self) -> bool {
         self.control[1] != 0
     }
 
-    pub fn held(&self) -> Option<SavedContext> {
+    pub(crate) fn held(&self) -> Option<SavedContext> {
         let [_, _, held, previous, age] = self.control;
         (held != 0).then(|| SavedContext {
             registers: self.saved,
@@ -62,15 +53,15 @@ impl State {
         })
     }
 
-    pub fn clock(&self) -> u64 {
+    pub(crate) fn clock(&self) -> u64 {
         self.time[0]
     }
 
-    pub fn pending(&self) -> Option<NonZeroU64> {
+    pub(crate) fn pending(&self) -> Option<NonZeroU64> {
         NonZeroU64::new(self.time[1])
     }
 
-    pub fn alarm(&self) -> Option<NonZeroU64> {
+    pub(crate) fn alarm(&self) -> Option<NonZeroU64> {
         NonZeroU64::new(self.time[2])
     }
 }

@@ -113,8 +113,8 @@ fn held_visit_belongs_to_its_layout() {
 // A raw machine that holds a visit.
 fn held_lent() -> Lent {
     let mut lent = Lent::fresh();
-    lent.saved[2] = 8;
-    lent.control[2..].copy_from_slice(&[1, 0x8002, 6]);
+    lent.machine.saved[2] = 8;
+    lent.machine.control[2..].copy_from_slice(&[1, 0x8002, 6]);
     lent.steps();
     lent
 }
@@ -123,7 +123,7 @@ fn held_lent() -> Lent {
 fn halted_is_0_or_1() {
     for value in [2, 0x100, 0x101, 0xFFFF] {
         for mut lent in [Lent::fresh(), held_lent()] {
-            lent.control[1] = value;
+            lent.machine.control[1] = value;
             lent.refused(4);
         }
     }
@@ -133,7 +133,7 @@ fn halted_is_0_or_1() {
 fn held_is_0_or_1() {
     for value in [2, 0x100, 0x101, 0xFFFF] {
         for mut lent in [Lent::fresh(), held_lent()] {
-            lent.control[2] = value;
+            lent.machine.control[2] = value;
             lent.refused(4);
         }
     }
@@ -143,7 +143,7 @@ fn held_is_0_or_1() {
 fn held_age_is_0_to_6() {
     for value in [7, 255, 256, 0x0106, 0xFFFF] {
         let mut lent = held_lent();
-        lent.control[4] = value;
+        lent.machine.control[4] = value;
         lent.refused(4);
     }
 }
@@ -151,8 +151,11 @@ fn held_age_is_0_to_6() {
 #[test]
 fn fields_of_no_visit_are_not_looked_at() {
     let mut lent = Lent::fresh();
-    lent.saved = [0xFFFF; 16];
-    lent.control[3..].copy_from_slice(&[0xFFFF, 0xFFFF]);
+    lent.machine.saved = [0xFFFF; 16];
+    lent.machine.control[3..].copy_from_slice(&[0xFFFF, 0xFFFF]);
     assert_eq!(lent.step(), 0);
-    assert_eq!((lent.saved, &lent.control[2..]), ([0; 16], &[0, 0, 0][..]));
+    assert_eq!(
+        (lent.machine.saved, &lent.machine.control[2..]),
+        ([0; 16], &[0, 0, 0][..])
+    );
 }

@@ -2,7 +2,8 @@
 
 mod support;
 
-use enclave::{ffi, Refusal};
+use enclave::raw::{self, Places};
+use enclave::Refusal;
 use support::raw::Lent;
 
 // A fresh machine with this edit.
@@ -61,14 +62,14 @@ fn refusal_3_timetable() {
 
 #[test]
 fn refusal_4_frame() {
-    edited(|l| l.registers[0] = 0x4401).refused(4);
-    edited(|l| l.registers[1] = 1).refused(4);
-    edited(|l| l.registers[3] = 1).refused(4);
-    edited(|l| l.control[0] = 1).refused(4);
-    edited(|l| l.time = [100, 101, 0]).refused(4);
-    edited(|l| l.time = [100, 0, 100]).refused(4);
-    edited(|l| l.control[2] = 1).refused(4);
-    edited(|l| l.time = [100, 100, 101]).steps();
+    edited(|l| l.machine.registers[0] = 0x4401).refused(4);
+    edited(|l| l.machine.registers[1] = 1).refused(4);
+    edited(|l| l.machine.registers[3] = 1).refused(4);
+    edited(|l| l.machine.control[0] = 1).refused(4);
+    edited(|l| l.machine.time = [100, 101, 0]).refused(4);
+    edited(|l| l.machine.time = [100, 0, 100]).refused(4);
+    edited(|l| l.machine.control[2] = 1).refused(4);
+    edited(|l| l.machine.time = [100, 100, 101]).steps();
 }
 
 #[test]
@@ -83,9 +84,9 @@ fn refusal_5_distance() {
 
 #[test]
 fn refusal_6_clock() {
-    edited(|l| l.time[0] = (1 << 62) + 1).refused(6);
-    edited(|l| l.time[0] = u64::MAX).refused(6);
-    edited(|l| l.time[0] = 1 << 62).steps();
+    edited(|l| l.machine.time[0] = (1 << 62) + 1).refused(6);
+    edited(|l| l.machine.time[0] = u64::MAX).refused(6);
+    edited(|l| l.machine.time[0] = 1 << 62).steps();
 }
 
 #[test]
@@ -94,9 +95,9 @@ fn refusals_come_in_number_order() {
         l.memory.pop();
         l.layout[4] = 0x8007;
         l.stamps = vec![0];
-        l.registers[3] = 1;
+        l.machine.registers[3] = 1;
         l.budget = 1_000_001;
-        l.time[0] = (1 << 62) + 1;
+        l.machine.time[0] = (1 << 62) + 1;
     });
     lent.refused(1);
     lent.memory.push(0);
@@ -105,47 +106,24 @@ fn refusals_come_in_number_order() {
     lent.refused(3);
     lent.stamps = vec![6];
     lent.refused(4);
-    lent.registers[3] = 0;
+    lent.machine.registers[3] = 0;
     assert_eq!((lent.clone().run(), lent.clone().step()), (5, 6));
     lent.budget = 0;
     lent.refused(6);
 }
 
-// All that the sheet reader writes.
-#[derive(Clone, PartialEq)]
-struct Written {
-    memory: Box<[u8; 65536]>,
-    stamps: Box<[u64; 4096]>,
-    layout: [u16; 5],
-    count: u64,
-    budget: u64,
-}
-
 // A sheet is refused by this number for this line, and nothing but the line is written.
 fn sheet_refused(sheet: &[u8], number: u8, line: u64) {
-    let marks = Written {
+    let marks = Places {
         memory: Box::new([0xAA; 65536]),
         stamps: Box::new([0xAA; 4096]),
         layout: [0xAA; 5],
         count: 0xAA,
         budget: 0xAA,
     };
-    let (mut w, mut told) = (marks.clone(), 0xAA);
-    // SAFETY: what is written are parts of one value and a number apart; the size is the sheet's.
-    let answer = unsafe {
-        ffi::enclave_read_sheet(
-            sheet.as_ptr(),
-            sheet.len(),
-            &mut *w.memory,
-            &mut *w.stamps,
-            &mut w.layout,
-            &mut w.count,
-            &mut w.budget,
-            &mut told,
-        )
-    };
-    assert_eq!((answer, told), (number, line));
-    assert!(w == marks);
+    let (mut places, mut told) = (marks.clone(), 0xAA);
+    assert_eq!((places.read(sheet, &mut told), told), (number, line));
+    assert!(places == marks);
 }
 
 #[test]
@@ -164,8 +142,7 @@ fn refusals_of_a_sheet() {
 #[test]
 fn refusal_9_word() {
     let (mut fields, mut length) = ([0xAA; 4], 0xAA);
-    // SAFETY: both pointers come from exclusive references.
-    let answer = unsafe { ffi::enclave_read(0x0000, 0, &mut fields, &mut length) };
+    let answer = raw::read(0x0000, 0, &mut fields, &mut length);
     assert_eq!((answer, fields, length), (9, [0xAA; 4], 0xAA));
     let unwritable = [
         [16, 0, 0, 0],
@@ -180,8 +157,7 @@ fn refusal_9_word() {
     ];
     for fields in unwritable {
         let (mut first, mut second, mut length) = (0xAA, 0xAA, 0xAA);
-        // SAFETY: all pointers come from references to parts that are apart.
-        let answer = unsafe { ffi::enclave_write(&fields, &mut first, &mut second, &mut length) };
+        let answer = raw::write(&fields, &mut first, &mut second, &mut length);
         assert_eq!((answer, first, second, length), (9, 0xAA, 0xAA, 0xAA));
     }
 }

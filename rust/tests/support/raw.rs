@@ -1,15 +1,12 @@
 //! The exported functions on one block of numbers, so that all that a call is lent can be compared.
 #![allow(dead_code)]
 
-use enclave::ffi;
+use enclave::raw::{self, Numbers};
 
 /// All that step and run are lent.
 #[derive(Clone, PartialEq, Debug)]
 pub struct Lent {
-    pub registers: [u16; 16],
-    pub saved: [u16; 16],
-    pub control: [u16; 5],
-    pub time: [u64; 3],
+    pub machine: Numbers,
     pub memory: Vec<u8>,
     pub layout: [u16; 5],
     pub stamps: Vec<u64>,
@@ -29,10 +26,12 @@ impl Lent {
             word.copy_from_slice(&[0x03, 0x43]);
         }
         let mut lent = Lent {
-            registers: [0xAAAA; 16],
-            saved: [0xAAAA; 16],
-            control: [0xAAAA; 5],
-            time: [0xAAAA; 3],
+            machine: Numbers {
+                registers: [0xAAAA; 16],
+                saved: [0xAAAA; 16],
+                control: [0xAAAA; 5],
+                time: [0xAAAA; 3],
+            },
             memory,
             layout: [0x8000, 0x8008, 0x8100, 0x8104, 0x4500],
             stamps: vec![600],
@@ -47,61 +46,28 @@ impl Lent {
     }
 
     pub fn start(&mut self) -> u8 {
-        // SAFETY: the parts are fields of an exclusive reference, and the size is the vector's.
-        unsafe {
-            ffi::enclave_start(
-                &mut self.registers,
-                &mut self.saved,
-                &mut self.control,
-                &mut self.time,
-                self.memory.as_ptr(),
-                self.memory.len(),
-            )
-        }
+        self.machine.start(&self.memory)
     }
 
     pub fn step(&mut self) -> u8 {
-        // SAFETY: the parts are fields of an exclusive reference, and the sizes are the vectors'.
-        unsafe {
-            ffi::enclave_step(
-                &mut self.registers,
-                &mut self.saved,
-                &mut self.control,
-                &mut self.time,
-                self.memory.as_mut_ptr(),
-                self.memory.len(),
-                &self.layout,
-                self.stamps.as_ptr(),
-                self.stamps.len(),
-                &mut self.kind,
-                &mut self.cause,
-            )
-        }
+        let (kind, cause) = (&mut self.kind, &mut self.cause);
+        self.machine
+            .step(&mut self.memory, &self.layout, &self.stamps, kind, cause)
     }
 
     pub fn run(&mut self) -> u8 {
-        // SAFETY: the parts are fields of an exclusive reference, and the sizes are the vectors'.
-        unsafe {
-            ffi::enclave_run(
-                &mut self.registers,
-                &mut self.saved,
-                &mut self.control,
-                &mut self.time,
-                self.memory.as_mut_ptr(),
-                self.memory.len(),
-                &self.layout,
-                self.stamps.as_ptr(),
-                self.stamps.len(),
-                self.budget,
-                &mut self.end,
-                &mut self.steps,
-            )
-        }
+        self.machine.run(
+            &mut self.memory,
+            &self.layout,
+            &self.stamps,
+            self.budget,
+            &mut self.end,
+            &mut self.steps,
+        )
     }
 
     pub fn access(&mut self, from: u16, address: u16) -> u8 {
-        // SAFETY: both parts are fields of an exclusive reference.
-        unsafe { ffi::enclave_access(&self.layout, from, address, &mut self.kind) }
+        raw::access(&self.layout, from, address, &mut self.kind)
     }
 
     /// Step and run answer this refusal and alter nothing.
