@@ -30,7 +30,7 @@ module _ (b : Bool) where
   abbrev Gie : List ℕ → Type 0
   Gie rs = gie (sr rs) ≡ b
 
-  set-gie : (rs : List ℕ) (n v : ℕ) → (2 ≡ n → gie v ≡ b) → Gie rs → Gie (set rs n v)
+  pub set-gie : (rs : List ℕ) (n v : ℕ) → (2 ≡ n → gie v ≡ b) → Gie rs → Gie (set rs n v)
   set-gie rs n v new old = register-set (λ (x : ℕ). gie x ≡ b) rs n 2 v new old
 
   write-gie : (rs : List ℕ) (n w : ℕ) → Gie rs → Gie (write true rs n w)

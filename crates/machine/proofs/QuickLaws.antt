@@ -1,33 +1,35 @@
 -- The quick way of a step does what the step does. Assumes nothing.
-use mathlib.Core.Path.{_≡_, refl, sym, _∙_, ap}
+use mathlib.Core.Path.{_≡_, refl, sym, _∙_, ap, subst}
 use mathlib.Core.Bool.{Bool, true, false, not, true≢false}
 use mathlib.Core.List.{List, [], _∷_}
-use Prim.Native.Nat.{ℕ, zero, suc, _+_, _≤_, _<_}
+use Prim.Native.Nat.{ℕ, zero, suc, _+_, _*_, _/_, _%_, _≤_, _<_}
 use native.Mathlib.Omega.{arith}
 use lib.Dec.{ltb, leb, eqb}
 use lib.ListN.{set}
-use borrow.Author.Tests.{ltb-false, ne-eqb, lt-leb, not-false}
+use borrow.Author.Tests.{ltb-false, eqb-true, ne-eqb, lt-leb, not-true, not-false}
 use Rattle.base.specs.Test.{if_then_else_, all}
 use Rattle.base.specs.Word.{even, sum16}
-use Rattle.base.proofs.Tests.{if-true, if-false, choose, choose-both}
+use Rattle.base.proofs.Tests.{cases, each, every, if-true, if-false, choose, choose-both}
 use Rattle.isa.specs.declared.instruction.Operation.{Operation}
 use Rattle.isa.specs.declared.instruction.Operation.the-variants.{Add, Sub, Cmp, And}
 use Rattle.isa.specs.declared.instruction.Operand.the-variants.{Register, Pointed, Constant}
 use Rattle.isa.specs.declared.instruction.Instruction.{Instruction}
 use Rattle.isa.specs.declared.instruction.Instruction.the-variants.{Jz, Nop, Jmp, Mov, Store, Compute}
 use Rattle.isa.specs.declared.table.Row.{Row}
-use Rattle.isa.specs.declared.table.Row.the-variants.{Hlt as HLT, In as IN, Out as OUT, Jz as JZ, Reti as RETI, Nop as NOP, Jmp as JMP, Mov as MOV, Load as LOAD, Store as STORE, Immediate as IMMEDIATE, Compute as COMPUTE, Not as NOT}
+use Rattle.isa.specs.declared.table.Row.the-variants.{Jz as JZ, Nop as NOP, Jmp as JMP, Mov as MOV, Load as LOAD, Store as STORE, Immediate as IMMEDIATE, Compute as COMPUTE}
 use Rattle.isa.specs.declared.read.Begun.{Begun}
-use Rattle.isa.specs.declared.read.Begun.the-variants.{Nothing, Found}
-use Rattle.isa.specs.Words.{twoWords, finished}
+use Rattle.isa.specs.declared.read.Begun.the-variants.{Found}
+use Rattle.isa.specs.Words.{hasWord, begun, twoWords, finished}
 use Rattle.isa.specs.Cycles.{cyclesOf}
 use Rattle.alu.specs.declared.arithmetic.Computed.{Computed}
 use Rattle.alu.specs.Arithmetic.{computed}
-use Rattle.alu.specs.Status.{zero as zeroSet, setFlags}
+use Rattle.alu.specs.Status.{gie, zero as zeroSet, setFlags}
+use Rattle.alu.specs.Laws.{FlagsOnly}
+use Rattle.alu.proofs.StatusBits.{flags-only}
 use Rattle.layout.specs.declared.sections.Layout.{Layout}
 use Rattle.layout.specs.declared.access.Right.the-variants.{Read as read, Write as write}
-use Rattle.isa.specs.Table.{Place, second, last, nowhere, digitAt, lineOf, sDigit, dDigit}
-use Rattle.isa.proofs.Rows.{Begins, nothing, row as has, begun-begins}
+use Rattle.isa.specs.Table.{pointer, operationWord, firstWord, sDigit, dDigit}
+use Rattle.isa.proofs.Rows.{has, begun-row}
 use Rattle.layout.specs.Sections.{inside, sameSide}
 use Rattle.machine.specs.declared.state.Stamp.{Stamp}
 use Rattle.machine.specs.declared.state.Stamp.the-variants.{Never}
@@ -38,6 +40,7 @@ use Rattle.machine.specs.Time.{deviceWord, pass}
 use Rattle.machine.specs.Interrupt.{gives, due, interrupted}
 use Rattle.machine.specs.Step.{alarmed, savedFor, executed, step}
 use Rattle.machine.proofs.InstructionLaws.{unprivileged}
+use Rattle.machine.proofs.GieLaws.{set-gie}
 use Rattle.machine.proofs.StepLaws.{judged, bytes, next, Runs, step-runs}
 use Rattle.layout.specs.Access.{may}
 use Rattle.machine.specs.declared.judge.Judged.{Judged}
@@ -47,11 +50,11 @@ use Rattle.machine.specs.declared.quick.Quick.{Quick}
 use Rattle.machine.specs.declared.quick.Quick.the-variants.{Rare, Does}
 use Rattle.machine.specs.Memory.{wordAt}
 use Rattle.machine.specs.Registers.{register, pc, sr, write as writeRegister}
-use Rattle.machine.specs.Judge.{reads, writes, allMay, privileged, isReti, judgeAct, judgeWords, judgeSecond, judge}
+use Rattle.machine.specs.Judge.{reads, writes, allMay, privileged, isReti, judgeAct, judgeWords, judgeSecond, judgeFirst, judge}
 use Rattle.machine.specs.Act.{past, registersAfter, memoryAfter}
-use Rattle.machine.specs.Quick.{fetched, leading, setting, computing, branching, loading, constant, storing, quick, later, affected, putIf}
+use Rattle.machine.specs.Quick.{fetchable, leading, setting, computing, grouped, branching, registering, loading, constant, storing, moving, quick, later, affected, putIf}
 use Rattle.machine.proofs.ActLaws.{register-set}
-use Rattle.machine.proofs.JudgeLaws.{first-fails, second-fails, first-found}
+use Rattle.machine.proofs.JudgeLaws.{first-fails, second-fails}
 
 -- ---- registers that are set
 
@@ -107,6 +110,18 @@ module _ (rs : List ℕ) (to : ℕ) where
 
 -- ---- what a quick answer promises
 
+-- a register above r3 may hold an address
+points : (n : ℕ) → 4 ≤ n → pointer n ≡ true
+unfolding pointer
+points n h =
+    every _ (
+      ap not (ne-eqb n 0 (λ e. absurd (omega arith))),
+      (
+        ap not (ne-eqb n 2 (λ e. absurd (omega arith))),
+        (ap not (ne-eqb n 3 (λ e. absurd (omega arith))), tt),
+      ),
+    )
+
 module _ (L : Layout) (held : Bool) (rs mem : List ℕ) where
   -- an instruction acts that is neither barred inside nor RETI
   acting : (i : Instruction) → privileged i ≡ false → isReti i ≡ false → allMay L (pc rs) read (reads rs i) ≡ true
@@ -119,37 +134,39 @@ module _ (L : Layout) (held : Bool) (rs mem : List ℕ) where
   -- what is begun acts, and the effect is what it does
   pub record Acting (b : Begun) (x y : ℕ) (e : Effect) : Type 0 where
     pub instruction : Instruction
-    pub acts : judgeSecond L held rs mem b ≡ Acts instruction
+    pub acts : judgeFirst L held rs mem b ≡ Acts instruction
     pub unbarred : privileged instruction ≡ false
     pub other : isReti instruction ≡ false
     pub sets : (t : Bool) (device : ℕ) → registersAfter t rs device mem instruction ≡ affected e rs
     pub puts : memoryAfter rs mem instruction ≡ putIf (e .puts) mem y x
     pub takes : cyclesOf instruction ≡ e .cycles
     pub digit : e .number < 16
+    pub general : 2 ≡ e .number → ⊥
+    pub quiet : gie (e .status) ≡ gie (sr rs)
 
   -- nothing is promised of what is left to the step
   abbrev pub Sound : Begun → ℕ → ℕ → Quick → Type 0
   Sound b x y Rare = Unit {0}
   Sound b x y (Does e) = Acting b x y e
 
-  module _ (s d : ℕ) (small : d < 16) where
-    -- what is begun, with its operands
+  -- what is quick only where a test fails, or holds
+  unless : (b : Begun) (x y : ℕ) (t : Bool) (q : Quick) → (t ≡ false → Sound b x y q) → Sound b x y (if t then Rare else q)
+  unfolding if_then_else_
+  unless b x y true q p = tt
+  unless b x y false q p = p refl
+
+  provided : (b : Begun) (x y : ℕ) (t : Bool) (q : Quick) → (t ≡ true → Sound b x y q) → Sound b x y (if t then q else Rare)
+  unfolding if_then_else_
+  provided b x y true q p = p refl
+  provided b x y false q p = tt
+
+  module _ (s d x y : ℕ) (small : d < 16) where
+    -- what is begun with these registers
     abbrev Fine : Row → Quick → Type 0
-    Fine row q = Sound (Found row s d) (register rs s) (register rs d) q
-
-    -- what is quick only where a test fails, or holds
-    unless : (row : Row) (t : Bool) (q : Quick) → (t ≡ false → Fine row q) → Fine row (if t then Rare else q)
-    unfolding if_then_else_
-    unless row true q p = tt
-    unless row false q p = p refl
-
-    provided : (row : Row) (t : Bool) (q : Quick) → (t ≡ true → Fine row q) → Fine row (if t then q else Rare)
-    unfolding if_then_else_
-    provided row true q p = p refl
-    provided row false q p = tt
+    Fine row q = Sound (Found row s d) x y q
 
     nop-sound : Fine NOP (leading (sum16 (pc rs) 2) (sr rs) false 1)
-    unfolding judgeSecond judgeWords twoWords finished allMay registersAfter memoryAfter past putIf if_then_else_
+    unfolding judgeFirst judgeSecond judgeWords twoWords finished allMay registersAfter memoryAfter past putIf if_then_else_
     nop-sound =
         record {
           instruction = Nop;
@@ -160,10 +177,12 @@ module _ (L : Layout) (held : Bool) (rs mem : List ℕ) where
           puts = refl;
           takes = refl;
           digit = omega arith;
+          general = λ e. absurd (omega arith);
+          quiet = refl;
         }
 
     jmp-sound : Fine JMP (leading (even (register rs s)) (sr rs) false 2)
-    unfolding judgeSecond judgeWords twoWords finished allMay registersAfter memoryAfter past putIf writeRegister if_then_else_
+    unfolding judgeFirst judgeSecond judgeWords twoWords finished allMay registersAfter memoryAfter past putIf writeRegister if_then_else_
     jmp-sound =
         record {
           instruction = Jmp s;
@@ -174,10 +193,12 @@ module _ (L : Layout) (held : Bool) (rs mem : List ℕ) where
           puts = refl;
           takes = refl;
           digit = omega arith;
+          general = λ e. absurd (omega arith);
+          quiet = refl;
         }
 
-    jz-acts : judgeSecond L held rs mem (Found JZ s d) ≡ Acts (Jz s)
-    unfolding judgeSecond judgeWords twoWords finished allMay if_then_else_
+    jz-acts : judgeFirst L held rs mem (Found JZ s d) ≡ Acts (Jz s)
+    unfolding judgeFirst judgeSecond judgeWords twoWords finished allMay if_then_else_
     jz-acts = acting (Jz s) refl refl refl refl
 
     jz-jumps : zeroSet (sr rs) ≡ true → (t : Bool) (device : ℕ)
@@ -204,6 +225,8 @@ module _ (L : Layout) (held : Bool) (rs mem : List ℕ) where
           puts = sym (if-false _ _ _ refl);
           takes = refl;
           digit = omega arith;
+          general = λ e. absurd (omega arith);
+          quiet = refl;
         })
         (λ h. record {
           instruction = Jz s;
@@ -214,16 +237,18 @@ module _ (L : Layout) (held : Bool) (rs mem : List ℕ) where
           puts = sym (if-false _ _ _ refl);
           takes = refl;
           digit = omega arith;
+          general = λ e. absurd (omega arith);
+          quiet = refl;
         })
 
     -- a row whose instruction sets a register above r3
-    setting-sound : (row : Row) (to w status n : ℕ) (i : Instruction) → judgeSecond L held rs mem (Found row s d) ≡ Acts i
+    setting-sound : (row : Row) (to w status n : ℕ) (i : Instruction) → judgeFirst L held rs mem (Found row s d) ≡ Acts i
         → privileged i ≡ false → isReti i ≡ false
         → (4 ≤ d → (t : Bool) (device : ℕ) → registersAfter t rs device mem i ≡ set (set (set rs 0 to) d w) 2 status)
-        → memoryAfter rs mem i ≡ mem → cyclesOf i ≡ n → Fine row (setting to d w status n)
+        → memoryAfter rs mem i ≡ mem → cyclesOf i ≡ n → gie status ≡ gie (sr rs) → Fine row (setting to d w status n)
     unfolding setting putIf
-    setting-sound row to w status n i a p r sets m k =
-        unless row (ltb d 4)
+    setting-sound row to w status n i a p r sets m k q =
+        unless (Found row s d) x y (ltb d 4)
         (Does (record { to = to; number = d; word = w; status = status; puts = false; cycles = n }))
         (λ h. record {
           instruction = i;
@@ -234,68 +259,50 @@ module _ (L : Layout) (held : Bool) (rs mem : List ℕ) where
           puts = m ∙ sym (if-false _ _ _ refl);
           takes = k;
           digit = small;
+          general = λ e. let f = ltb-false d 4 h in absurd (omega arith);
+          quiet = q;
         })
 
     mov-sound : Fine MOV (setting (sum16 (pc rs) 2) d (register rs s) (sr rs) 1)
-    unfolding judgeSecond judgeWords twoWords finished allMay registersAfter memoryAfter past if_then_else_
+    unfolding judgeFirst judgeSecond judgeWords twoWords finished allMay registersAfter memoryAfter past if_then_else_
     mov-sound =
         let i : Instruction = Mov (Register s) d in
-        setting-sound MOV _ _ _ _ i (acting i refl refl refl refl) refl refl (λ h t device. moved rs _ t d _ h) refl refl
+        setting-sound MOV _ _ _ _ i (acting i refl refl refl refl) refl refl (λ h t device. moved rs _ t d _ h) refl refl refl
 
-    load-sound : Fine LOAD (loading (pc rs) (sr rs) L mem (register rs s) d)
-    unfolding loading judgeSecond judgeWords twoWords finished allMay registersAfter memoryAfter past
+    load-sound : Fine LOAD
+        (if may L (pc rs) read (even (register rs s)) then setting (sum16 (pc rs) 2) d (wordAt mem (register rs s)) (sr rs) 2 else Rare)
+    unfolding judgeFirst judgeSecond judgeWords twoWords finished allMay registersAfter memoryAfter past
     load-sound =
         let i : Instruction = Mov (Pointed s) d in
-        provided LOAD (may L (pc rs) read (even (register rs s))) (setting (sum16 (pc rs) 2) d (wordAt mem (register rs s)) (sr rs) 2)
+        provided (Found LOAD s d) x y (may L (pc rs) read (even (register rs s))) (setting (sum16 (pc rs) 2) d (wordAt mem (register rs s)) (sr rs) 2)
         (λ k. setting-sound LOAD _ _ _ _ i
         (if-false _ _ _ refl ∙ ap (judgeWords L held rs) (if-true _ _ _ refl) ∙ acting i refl refl (if-true _ _ _ k) refl)
-        refl refl (λ h t device. moved rs _ t d _ h) refl refl)
+        refl refl (λ h t device. moved rs _ t d _ h) refl refl refl)
 
-    constant-sound : Fine IMMEDIATE (constant (pc rs) (sr rs) L mem d)
-    unfolding constant judgeSecond judgeWords twoWords finished allMay registersAfter memoryAfter past
+    constant-sound : Fine IMMEDIATE
+        (if sameSide L (pc rs) (sum16 (pc rs) 2) then setting (sum16 (pc rs) 4) d (wordAt mem (sum16 (pc rs) 2)) (sr rs) 2 else Rare)
+    unfolding judgeFirst judgeSecond judgeWords twoWords finished allMay registersAfter memoryAfter past
     constant-sound =
         let i : Instruction = Mov (Constant (wordAt mem (sum16 (pc rs) 2))) d in
-        provided IMMEDIATE (sameSide L (pc rs) (sum16 (pc rs) 2))
+        provided (Found IMMEDIATE s d) x y (sameSide L (pc rs) (sum16 (pc rs) 2))
         (setting (sum16 (pc rs) 4) d (wordAt mem (sum16 (pc rs) 2)) (sr rs) 2)
         (λ k. setting-sound IMMEDIATE _ _ _ _ i
         (if-true _ _ _ refl ∙ if-true _ _ _ k ∙ ap (judgeWords L held rs) (if-true _ _ _ refl) ∙ acting i refl refl refl refl)
-        refl refl (λ h t device. moved rs _ t d _ h) refl refl)
+        refl refl (λ h t device. moved rs _ t d _ h) refl refl refl)
 
-    store-sound : Fine STORE (storing (pc rs) (sr rs) L mem (register rs d))
-    unfolding storing judgeSecond judgeWords twoWords finished allMay registersAfter memoryAfter past putIf
-    store-sound =
-        let done : Quick = leading (sum16 (pc rs) 4) (sr rs) true 4 in
-        let may-put : Bool = may L (pc rs) write (even (register rs d)) in
-        let two : Quick = if may-put then done else Rare in
-        let wrong : Bool = not (eqb (wordAt mem (sum16 (pc rs) 2)) 0) in
-        unless STORE _ (if wrong then Rare else two)
-        (λ k. unless STORE wrong two
-        (λ l. provided STORE may-put done
-        (λ h. record {
-          instruction = Store s d;
-          acts = if-true _ _ _ refl ∙ if-true _ _ _ (not-false _ k) ∙ ap (judgeWords L held rs) (if-true _ _ _ (not-false _ l))
-              ∙ acting (Store s d) refl refl refl (if-true _ _ _ h);
-          unbarred = refl;
-          other = refl;
-          sets = λ t device. led rs _;
-          puts = sym (if-true _ _ _ refl);
-          takes = refl;
-          digit = omega arith;
-        })))
-
-    compute-acts : (o : Operation) → judgeSecond L held rs mem (Found (COMPUTE o) s d) ≡ Acts (Compute o s d)
-    unfolding judgeSecond judgeWords twoWords finished allMay if_then_else_
+    compute-acts : (o : Operation) → judgeFirst L held rs mem (Found (COMPUTE o) s d) ≡ Acts (Compute o s d)
+    unfolding judgeFirst judgeSecond judgeWords twoWords finished allMay if_then_else_
     compute-acts o = acting (Compute o s d) refl refl refl refl
 
     compute-sound : (o : Operation)
         → Fine (COMPUTE o) (computing (pc rs) (sr rs) o d (computed o (register rs s) (register rs d)))
-    unfolding registersAfter memoryAfter past putIf
+    unfolding registersAfter memoryAfter past putIf FlagsOnly
     compute-sound Add =
         setting-sound (COMPUTE Add) _ _ _ _ (Compute Add s d) (compute-acts Add) refl refl
-        (λ h t device. stored rs _ t d _ h _) refl refl
+        (λ h t device. stored rs _ t d _ h _) refl refl (flags-only (sr rs) _ .1)
     compute-sound Sub =
         setting-sound (COMPUTE Sub) _ _ _ _ (Compute Sub s d) (compute-acts Sub) refl refl
-        (λ h t device. stored rs _ t d _ h _) refl refl
+        (λ h t device. stored rs _ t d _ h _) refl refl (flags-only (sr rs) _ .1)
     compute-sound Cmp =
         record {
           instruction = Compute Cmp s d;
@@ -306,71 +313,177 @@ module _ (L : Layout) (held : Bool) (rs mem : List ℕ) where
           puts = sym (if-false _ _ _ refl);
           takes = refl;
           digit = omega arith;
+          general = λ e. absurd (omega arith);
+          quiet = flags-only (sr rs) _ .1;
         }
     compute-sound And =
         setting-sound (COMPUTE And) _ _ _ _ (Compute And s d) (compute-acts And) refl refl
-        (λ h t device. stored rs _ t d _ h _) refl refl
+        (λ h t device. stored rs _ t d _ h _) refl refl (flags-only (sr rs) _ .1)
 
-    -- whatever the row
-    pub quick-sound : (row : Row) → Fine row (quick (pc rs) (sr rs) L mem (register rs s) (register rs d) row d)
-    quick-sound HLT = tt
-    quick-sound IN = tt
-    quick-sound OUT = tt
-    quick-sound JZ = jz-sound
-    quick-sound RETI = tt
-    quick-sound NOP = nop-sound
-    quick-sound JMP = jmp-sound
-    quick-sound MOV = mov-sound
-    quick-sound LOAD = load-sound
-    quick-sound STORE = store-sound
-    quick-sound IMMEDIATE = constant-sound
-    quick-sound (COMPUTE o) = compute-sound o
-    quick-sound NOT = tt
+  -- MOV s 0(d), which puts its source
+  store-sound : (s d : ℕ) → Sound (Found STORE s d) (register rs s) (register rs d)
+      (if not (sameSide L (pc rs) (sum16 (pc rs) 2)) then Rare
+      else if not (eqb (wordAt mem (sum16 (pc rs) 2)) 0) then Rare
+      else if may L (pc rs) write (even (register rs d)) then leading (sum16 (pc rs) 4) (sr rs) true 4
+      else Rare)
+  unfolding judgeFirst judgeSecond judgeWords twoWords finished allMay registersAfter memoryAfter past putIf
+  store-sound s d =
+      let P : Quick → Type 0 = Sound (Found STORE s d) (register rs s) (register rs d) in
+      let done : Quick = leading (sum16 (pc rs) 4) (sr rs) true 4 in
+      let may-put : Bool = may L (pc rs) write (even (register rs d)) in
+      let two : Quick = if may-put then done else Rare in
+      let wrong : Bool = not (eqb (wordAt mem (sum16 (pc rs) 2)) 0) in
+      unless (Found STORE s d) _ _ _ (if wrong then Rare else two)
+      (λ k. unless (Found STORE s d) _ _ wrong two
+      (λ l. provided (Found STORE s d) _ _ may-put done
+      (λ h. record {
+        instruction = Store s d;
+        acts = if-true _ _ _ refl ∙ if-true _ _ _ (not-false _ k) ∙ ap (judgeWords L held rs) (if-true _ _ _ (not-false _ l))
+            ∙ acting (Store s d) refl refl refl (if-true _ _ _ h);
+        unbarred = refl;
+        other = refl;
+        sets = λ t device. led rs _;
+        puts = sym (if-true _ _ _ refl);
+        takes = refl;
+        digit = omega arith;
+        general = λ e. absurd (omega arith);
+        quiet = refl;
+      })))
+
+  -- ---- by the first word
+
+  module _ (w : ℕ) where
+    -- what a word promises, with the registers of its second and last digits
+    abbrev Word : Quick → Type 0
+    Word q = Sound (begun w) (register rs (w / 256 % 16)) (register rs (w % 16)) q
+
+    -- a word is in a row
+    in-row : (row : Row) (q : Quick) → hasWord row w ≡ true
+        → Sound (Found row (sDigit row w) (dDigit row w)) (register rs (w / 256 % 16)) (register rs (w % 16)) q → Word q
+    in-row row q h p =
+        subst (λ (b : Begun). Sound b (register rs (w / 256 % 16)) (register rs (w % 16)) q) (sym (begun-row row w h)) p
+
+    -- a register below r4 is rare, whatever the row
+    when-general : (to v status n : ℕ) → (4 ≤ w % 16 → Word (setting to (w % 16) v status n)) → Word (setting to (w % 16) v status n)
+    unfolding setting
+    when-general to v status n f =
+        cases (ltb (w % 16) 4) (λ h. subst Word (sym (if-true _ _ _ h)) tt) (λ h. f (ltb-false _ 4 h))
+
+    low : w % 16 < 16
+    low = omega arith
+
+    module _ (four : w / 4096 ≡ 4) where
+      register-word : w / 16 % 16 ≡ 0 → Word (registering (pc rs) (sr rs) (register rs (w / 256 % 16)) (w / 256 % 16) (w % 16))
+      unfolding registering firstWord
+      register-word z =
+          let x = register rs (w / 256 % 16) in
+          choose Word (eqb (w % 16) 0)
+          (λ e.
+          let f = eqb-true (w % 16) 0 e in
+          in-row JMP (leading (even x) (sr rs) false 2) (has JMP w (omega arith) refl)
+          (jmp-sound (w / 256 % 16) 0 x (register rs (w % 16)) (omega arith)))
+          (λ e. choose Word (all (eqb (w / 256 % 16) 3 ∷ eqb (w % 16) 3 ∷ []))
+          (λ k.
+          let t = each (eqb (w / 256 % 16) 3 ∷ eqb (w % 16) 3 ∷ []) k in
+          let f = eqb-true (w / 256 % 16) 3 (t .0) in
+          let g = eqb-true (w % 16) 3 (t .1 .0) in
+          let q : w ≡ w / 4096 * 4096 + w / 256 % 16 * 256 + w / 16 % 16 * 16 + w % 16 = omega arith in
+          in-row NOP (leading (sum16 (pc rs) 2) (sr rs) false 1) (has NOP w (omega arith) refl)
+          (nop-sound 0 0 x (register rs (w % 16)) (omega arith)))
+          (λ k. when-general (sum16 (pc rs) 2) x (sr rs) 1
+          (λ h. in-row MOV (setting (sum16 (pc rs) 2) (w % 16) x (sr rs) 1)
+          (has MOV w (omega arith) (every _ (ap not e, (ap not k, tt))))
+          (mov-sound (w / 256 % 16) (w % 16) x (register rs (w % 16)) low))))
+
+      load-word : w / 16 % 16 ≡ 2 → Word (loading (pc rs) (sr rs) L mem (register rs (w / 256 % 16)) (w / 256 % 16) (w % 16))
+      unfolding loading firstWord
+      load-word z =
+          let x = register rs (w / 256 % 16) in
+          let q : Quick =
+          if may L (pc rs) read (even x) then setting (sum16 (pc rs) 2) (w % 16) (wordAt mem x) (sr rs) 2 else Rare in
+          unless (begun w) x (register rs (w % 16)) (ltb (w / 256 % 16) 4) q
+          (λ h.
+          let k = ltb-false (w / 256 % 16) 4 h in
+          in-row LOAD q (has LOAD w (omega arith) (points (w / 256 % 16) k))
+          (load-sound (w / 256 % 16) (w % 16) x (register rs (w % 16)) low))
+
+      constant-word : w / 16 % 16 ≡ 3 → Word (constant (pc rs) (sr rs) L mem (w / 256 % 16) (w % 16))
+      unfolding constant firstWord
+      constant-word z =
+          let x = register rs (w / 256 % 16) in
+          let second = sum16 (pc rs) 2 in
+          let q : Quick =
+          if sameSide L (pc rs) second then setting (sum16 (pc rs) 4) (w % 16) (wordAt mem second) (sr rs) 2 else Rare in
+          unless (begun w) x (register rs (w % 16)) (not (eqb (w / 256 % 16) 0)) q
+          (λ h.
+          let k = eqb-true (w / 256 % 16) 0 (not-false _ h) in
+          in-row IMMEDIATE q (has IMMEDIATE w (omega arith) refl)
+          (constant-sound 0 (w % 16) x (register rs (w % 16)) low))
+
+      store-word : w / 16 % 16 ≡ 8 → Word (storing (pc rs) (sr rs) L mem (register rs (w % 16)) (w % 16))
+      unfolding storing firstWord
+      store-word z =
+          let y = register rs (w % 16) in
+          let second = sum16 (pc rs) 2 in
+          let q : Quick =
+          if not (sameSide L (pc rs) second) then Rare
+          else if not (eqb (wordAt mem second) 0) then Rare
+          else if may L (pc rs) write (even y) then leading (sum16 (pc rs) 4) (sr rs) true 4
+          else Rare in
+          unless (begun w) (register rs (w / 256 % 16)) y (ltb (w % 16) 4) q
+          (λ h.
+          let k = ltb-false (w % 16) 4 h in
+          in-row STORE q (has STORE w (omega arith) (points (w % 16) k)) (store-sound (w / 256 % 16) (w % 16)))
+
+      move-word : Word
+          (moving (pc rs) (sr rs) L mem (register rs (w / 256 % 16)) (register rs (w % 16)) (w / 256 % 16) (w / 16 % 16) (w % 16))
+      unfolding moving
+      move-word =
+          choose Word (eqb (w / 16 % 16) 0) (λ e. register-word (eqb-true _ _ e))
+          (λ _. choose Word (eqb (w / 16 % 16) 2) (λ e. load-word (eqb-true _ _ e))
+          (λ _. choose Word (eqb (w / 16 % 16) 3) (λ e. constant-word (eqb-true _ _ e))
+          (λ _. provided (begun w) (register rs (w / 256 % 16)) (register rs (w % 16)) (eqb (w / 16 % 16) 8)
+          (storing (pc rs) (sr rs) L mem (register rs (w % 16)) (w % 16)) (λ e. store-word (eqb-true _ _ e)))))
+
+    group-word : (o : Operation) → w / 4096 * 4096 ≡ operationWord o
+        → Word (grouped (pc rs) (sr rs) (register rs (w / 256 % 16)) (register rs (w % 16)) o (w / 16 % 16) (w % 16))
+    unfolding grouped firstWord
+    group-word o g =
+        let x = register rs (w / 256 % 16) in
+        let y = register rs (w % 16) in
+        let q : Quick = computing (pc rs) (sr rs) o (w % 16) (computed o x y) in
+        provided (begun w) x y (eqb (w / 16 % 16) 0) q
+        (λ e.
+        let z = eqb-true (w / 16 % 16) 0 e in
+        in-row (COMPUTE o) q (has (COMPUTE o) w (omega arith) refl) (compute-sound (w / 256 % 16) (w % 16) x y low o))
+
+    jump-word : w / 16 ≡ 3 → Word (branching (pc rs) (sr rs) (register rs (w % 16)))
+    unfolding firstWord
+    jump-word e =
+        in-row JZ (branching (pc rs) (sr rs) (register rs (w % 16))) (has JZ w (omega arith) refl)
+        (jz-sound (w % 16) 0 (register rs (w / 256 % 16)) (register rs (w % 16)) (omega arith))
+
+    -- whatever the word
+    pub quick-sound : Word (quick (pc rs) (sr rs) L mem (register rs (w / 256 % 16)) (register rs (w % 16)) w)
+    unfolding quick
+    quick-sound =
+        choose Word (eqb (w / 4096) 4) (λ e. move-word (eqb-true _ _ e))
+        (λ _. choose Word (eqb (w / 4096) 5) (λ e. let g = eqb-true (w / 4096) 5 e in group-word Add (omega arith))
+        (λ _. choose Word (eqb (w / 4096) 8) (λ e. let g = eqb-true (w / 4096) 8 e in group-word Sub (omega arith))
+        (λ _. choose Word (eqb (w / 4096) 9) (λ e. let g = eqb-true (w / 4096) 9 e in group-word Cmp (omega arith))
+        (λ _. choose Word (eqb (w / 4096) 15) (λ e. let g = eqb-true (w / 4096) 15 e in group-word And (omega arith))
+        (λ _. provided (begun w) (register rs (w / 256 % 16)) (register rs (w % 16)) (eqb (w / 16) 3)
+        (branching (pc rs) (sr rs) (register rs (w % 16))) (λ e. jump-word (eqb-true _ _ e)))))))
 
 -- ---- a quick step
 
--- the registers of a word are digits
-digit-small : (p : Place) (w : ℕ) → digitAt p w < 16
-digit-small second w = omega arith
-digit-small last w = omega arith
-digit-small nowhere w = omega arith
-
-isFound : Begun → Bool
-isFound Nothing = false
-isFound (Found row s d) = true
-
-unfound : {A : Type 0} {row : Row} {s d : ℕ} → Nothing ≡ Found row s d → A
-unfolding isFound
-unfound e = absurd (true≢false (sym (ap isFound e)))
-
-abbrev Digits : Begun → Type 0
-Digits b = (row : Row) (s d : ℕ) → b ≡ Found row s d → (s < 16) × (d < 16)
-
-begins-digits : (w : ℕ) (b : Begun) → Begins w b → Digits b
-begins-digits w b nothing row s d e = unfound e
-begins-digits w b (has r h) row s d e =
-    let f : sDigit r w ≡ s = cc in
-    let g : dDigit r w ≡ d = cc in
-    let i = digit-small (lineOf r .s) w in
-    let j = digit-small (lineOf r .d) w in
-    (omega arith, omega arith)
-
-module _ (L : Layout) (held : Bool) (mem : List ℕ) (previous : ℕ) where
-  pub fetched-digits : (a : ℕ) → Digits (fetched L held mem previous a)
-  unfolding fetched
-  fetched-digits a =
-      choose Digits _ (λ h row s d e. unfound e) (λ h. choose Digits _ (λ k row s d e. unfound e) (λ k. begins-digits _ _ (begun-begins _)))
-
-  -- what is fetched is judged from cause 4 on
-  pub fetched-judged : (rs : List ℕ) (row : Row) (s d : ℕ) → fetched L held mem previous (pc rs) ≡ Found row s d
-      → judge L held rs mem previous ≡ judgeSecond L held rs mem (Found row s d)
-  unfolding fetched judge
-  fetched-judged rs row s d =
-      choose-both (λ (b : Begun) (j : Judged). b ≡ Found row s d → j ≡ judgeSecond L held rs mem (Found row s d)) _
-      (λ h e. unfound e)
-      (λ h. choose-both (λ (b : Begun) (j : Judged). b ≡ Found row s d → j ≡ judgeSecond L held rs mem (Found row s d)) _
-      (λ k e. unfound e)
-      (λ k e. first-found L held rs mem _ row s d e ∙ ap (judgeSecond L held rs mem) e))
+-- what is fetched is judged from cause 3 on
+pub fetched-judged : (L : Layout) (held : Bool) (rs mem : List ℕ) (previous : ℕ) → fetchable L held previous (pc rs) ≡ true
+    → judge L held rs mem previous ≡ judgeFirst L held rs mem (begun (wordAt mem (pc rs)))
+unfolding fetchable judge
+fetched-judged L held rs mem previous =
+    choose-both (λ (t : Bool) (j : Judged). t ≡ true → j ≡ judgeFirst L held rs mem (begun (wordAt mem (pc rs)))) _
+    (λ h e. absurd (true≢false (sym e))) (λ h e. if-false _ _ _ (not-true _ e))
 
 -- the machine after an effect
 abbrev pub afterEffect : Effect → Machine → Machine
@@ -389,10 +502,25 @@ none-due : (m : Machine) → m .time .slot ≡ Never → due m ≡ Never
 unfolding due
 none-due m e = choose (λ (z : Stamp). z ≡ Never) _ (λ h. e) (λ h. refl)
 
+-- and none of a silent machine
+silent-due : (m : Machine) → gie (sr (m .registers)) ≡ false → due m ≡ Never
+unfolding due
+silent-due m e = if-false _ _ _ e
+
 module _ (L : Layout) (stamps : List ℕ) (m : Machine) (mem : List ℕ) (running : m .halted ≡ false) where
   module _ (b : Begun) (x y : ℕ) (e : Effect) (a : Acting L (isHeld (m .visit)) (m .registers) mem b x y e)
-      (judging : judged L m mem ≡ judgeSecond L (isHeld (m .visit)) (m .registers) mem b)
-      (still : pass stamps (e .cycles) (m .time) ≡ later (e .cycles) (m .time)) (empty : m .time .slot ≡ Never) where
+      (judging : judged L m mem ≡ judgeFirst L (isHeld (m .visit)) (m .registers) mem b)
+      (still : pass stamps (e .cycles) (m .time) ≡ later (e .cycles) (m .time)) (silent : Bool)
+      (hushed : silent ≡ true → gie (sr (m .registers)) ≡ false) (empty : silent ≡ false → m .time .slot ≡ Never) where
+    -- a silent machine stays so
+    pub acting-hushed : silent ≡ true → gie (sr (afterEffect e m .registers)) ≡ false
+    acting-hushed h =
+        set-gie false _ 2 _ (λ k. a .quiet ∙ hushed h)
+        (set-gie false _ (e .number) _ (λ k. absurd (a .general k)) (set-gie false (m .registers) 0 _ (λ k. absurd (omega arith)) (hushed h)))
+
+    acting-due : due (afterEffect e m) ≡ Never
+    acting-due = cases silent (λ h. silent-due (afterEffect e m) (acting-hushed h)) (λ h. none-due (afterEffect e m) (empty h))
+
     acting-time : alarmed (m .registers) (a .instruction) (pass stamps (cyclesOf (a .instruction)) (m .time))
         ≡ later (e .cycles) (m .time)
     acting-time =
@@ -421,5 +549,5 @@ module _ (L : Layout) (stamps : List ℕ) (m : Machine) (mem : List ℕ) (runnin
         ∙ ap (λ (z : Machine). interrupted L stamps (inside L (pc (m .registers))) Ran z (bytes m mem (a .instruction)) (due z))
         acting-next
         ∙ ap (interrupted L stamps (inside L (pc (m .registers))) Ran (afterEffect e m) (bytes m mem (a .instruction)))
-        (none-due (afterEffect e m) empty)
+        acting-due
         ∙ ap (λ (z : List ℕ). gives (afterEffect e m) z Ran) (a .puts)

@@ -2,33 +2,37 @@
 use mathlib.Core.Path.{_≡_, refl, sym, _∙_, ap, subst}
 use mathlib.Core.Bool.{Bool, true, false}
 use mathlib.Core.List.{List}
-use Prim.Native.Nat.{ℕ, zero, suc, _+_, _-_, _%_, _≤_, _<_, _^_}
+use Prim.Native.Nat.{ℕ, zero, suc, _+_, _-_, _/_, _%_, _≤_, _<_, _^_}
 use native.Mathlib.Omega.{arith}
 use lib.ListN.{length, getD, set}
 use Rattle.base.proofs.Tests.{cases}
-use Rattle.isa.specs.declared.table.Row.{Row}
-use Rattle.isa.specs.declared.read.Begun.the-variants.{Found}
+use Rattle.isa.specs.Words.{begun}
 use Rattle.isa.specs.Cycles.{cyclesOf}
+use Rattle.alu.specs.Status.{gie}
 use Rattle.layout.specs.declared.sections.Layout.{Layout}
+use Rattle.machine.specs.declared.state.Stamp.the-variants.{Never}
 use Rattle.machine.specs.declared.state.Visit.{Visit}
 use Rattle.machine.specs.declared.state.Visit.the-variants.{Free, Held}
 use Rattle.machine.specs.declared.state.Machine.{Machine}
 use Rattle.machine.specs.declared.answer.Outcome.the-variants.{Ran}
 use Rattle.machine.specs.declared.quick.Effect.{Effect}
-use Rattle.machine.specs.declared.quick.Quick.{Quick}
 use Rattle.machine.specs.declared.quick.Quick.the-variants.{Does}
-use Rattle.machine.specs.Registers.{register, pc, sr}
+use Rattle.machine.specs.Memory.{wordAt}
+use Rattle.machine.specs.Registers.{register, sr}
 use Rattle.machine.specs.State.{World, world, isHeld}
+use Rattle.machine.specs.Time.{pass}
+use Rattle.machine.specs.Judge.{judgeFirst}
 use Rattle.machine.specs.Interrupt.{Step, gives}
 use Rattle.machine.specs.Step.{savedFor, step}
 use Rattle.machine.specs.Run.{lastClock, worldAfter, stepOf, runFrom, stopOr}
-use Rattle.machine.specs.Quick.{later, Still, fetched, quick, putIf, Leads, none, on, Turn}
+use Rattle.machine.specs.Quick.{later, Still, fetchable, quick, putIf, Leads, none, on, Turn}
 use Rattle.machine.specs.Laws.{LengthKept}
 use Rattle.machine.proofs.InstructionLaws.{cycles-range}
 use Rattle.machine.proofs.CycleLaws.{clock-rises}
 use Rattle.machine.proofs.TouchLaws.{length-kept}
+use Rattle.machine.proofs.StepLaws.{judged}
 use Rattle.machine.proofs.StillLaws.{still-later}
-use Rattle.machine.proofs.QuickLaws.{Sound, Acting, quick-sound, fetched-digits, fetched-judged, afterEffect, acting-step}
+use Rattle.machine.proofs.QuickLaws.{Sound, Acting, quick-sound, fetched-judged, afterEffect, acting-hushed, acting-step}
 use Rattle.machine.proofs.Turns.{ending-goes}
 
 -- a saved copy handed back stays what it is
@@ -50,53 +54,32 @@ coded e kept m =
 
 module _ (L : Layout) (stamps : List ℕ) where
   -- k quick steps from a world, of which none begins past a clock value
-  pub record Quickened (until : ℕ) (held : Bool) (kept : List ℕ) (from w : World) (k : ℕ) : Type 0 where
+  pub record Quickened (until : ℕ) (silent held : Bool) (kept : List ℕ) (from w : World) (k : ℕ) : Type 0 where
     pub size : length (w .memory) ≡ 65536
     pub leads : Leads L stamps from k w
-    pub still : Still stamps (w .machine .time) until
+    pub still : Still stamps silent (w .machine .time) until
     pub running : w .machine .halted ≡ true → until ≡ 0
     pub holds : held ≡ isHeld (w .machine .visit)
     pub keeps : kept ≡ savedFor (w .machine .visit) (w .machine .saved)
     pub room : w .machine .time .clock ≤ 2 ^ 63
+    pub hushed : silent ≡ true → gie (getD (w .machine .registers) 2 0) ≡ false
 
-  module _ (until : ℕ) (held : Bool) (kept : List ℕ) (from w : World) (k : ℕ) (q : Quickened until held kept from w k)
-      (near : w .machine .time .clock + 5 ≤ until) (row : Row) (s d : ℕ)
-      (f : fetched L held (w .memory) (w .machine .previous) (getD (w .machine .registers) 0 0) ≡ Found row s d) (e : Effect)
+  module _ (until : ℕ) (silent held : Bool) (kept : List ℕ) (from w : World) (k : ℕ) (q : Quickened until silent held kept from w k)
+      (near : w .machine .time .clock + 5 ≤ until)
+      (f : fetchable L held (w .machine .previous) (getD (w .machine .registers) 0 0) ≡ true) (first : ℕ)
+      (word : first ≡ wordAt (w .memory) (getD (w .machine .registers) 0 0)) (e : Effect)
       (does : quick (getD (w .machine .registers) 0 0) (getD (w .machine .registers) 2 0) L (w .memory)
-      (getD (w .machine .registers) (s % 16) 0) (getD (w .machine .registers) (d % 16) 0) row d ≡ Does e) where
+      (getD (w .machine .registers) (first / 256 % 16) 0) (getD (w .machine .registers) (first % 16) 0) first ≡ Does e) where
     -- the machine runs
     awake : w .machine .halted ≡ false
     awake = cases (w .machine .halted) (λ h. let z = q .running h in absurd (omega arith)) (λ h. h)
 
-    -- digits are registers as they stand
-    digits : (s < 16) × (d < 16)
+    fits : Acting L (isHeld (w .machine .visit)) (w .machine .registers) (w .memory) (begun first)
+        (register (w .machine .registers) (first / 256 % 16)) (register (w .machine .registers) (first % 16)) e
     unfolding register
-    digits = fetched-digits L held (w .memory) (w .machine .previous) _ row s d f
-
-    s-digit : s % 16 ≡ s
-    s-digit = let h = digits .0 in omega arith
-
-    d-digit : d % 16 ≡ d
-    d-digit = let h = digits .1 in omega arith
-
-    abbrev Fits : Quick → Type 0
-    Fits z =
-        Sound L (isHeld (w .machine .visit)) (w .machine .registers) (w .memory) (Found row s d)
-        (register (w .machine .registers) s) (register (w .machine .registers) d) z
-
-    does-so : quick (pc (w .machine .registers)) (sr (w .machine .registers)) L (w .memory)
-        (register (w .machine .registers) s) (register (w .machine .registers) d) row d ≡ Does e
-    unfolding register
-    does-so =
-        let m = w .machine .registers in
-        ap (λ (n : ℕ). quick (getD m 0 0) (getD m 2 0) L (w .memory) (getD m n 0) (getD m d 0) row d) (sym s-digit)
-        ∙ ap (λ (n : ℕ). quick (getD m 0 0) (getD m 2 0) L (w .memory) (getD m (s % 16) 0) (getD m n 0) row d) (sym d-digit)
-        ∙ does
-
-    fits : Fits (Does e)
     fits =
-        subst Fits does-so
-        (quick-sound L (isHeld (w .machine .visit)) (w .machine .registers) (w .memory) s d (digits .1) row)
+        subst (Sound L (isHeld (w .machine .visit)) (w .machine .registers) (w .memory) (begun first) _ _) does
+        (quick-sound L (isHeld (w .machine .visit)) (w .machine .registers) (w .memory) first)
 
     pub quickened-few : (1 ≤ e .cycles) × (e .cycles ≤ 5)
     quickened-few =
@@ -104,16 +87,30 @@ module _ (L : Layout) (stamps : List ℕ) where
         let t = fits .takes in
         (omega arith, omega arith)
 
+    judging : judged L (w .machine) (w .memory) ≡ judgeFirst L (isHeld (w .machine .visit)) (w .machine .registers) (w .memory) (begun first)
+    unfolding register
+    judging =
+        fetched-judged L (isHeld (w .machine .visit)) (w .machine .registers) (w .memory) (w .machine .previous)
+        (ap (λ (h : Bool). fetchable L h (w .machine .previous) (getD (w .machine .registers) 0 0)) (sym (q .holds)) ∙ f)
+        ∙ ap (λ (z : ℕ). judgeFirst L (isHeld (w .machine .visit)) (w .machine .registers) (w .memory) (begun z)) (sym word)
+
+    goes-on : pass stamps (e .cycles) (w .machine .time) ≡ later (e .cycles) (w .machine .time)
+    goes-on = q .still .passes (e .cycles) (quickened-few .0) (let h = quickened-few .1 in omega arith)
+
+    nothing-pending : silent ≡ false → w .machine .time .slot ≡ Never
+    nothing-pending = q .still .empty (e .cycles) (quickened-few .0) (let h = quickened-few .1 in omega arith)
+
+    stays-hushed : silent ≡ true → gie (sr (afterEffect e (w .machine) .registers)) ≡ false
+    unfolding register
+    stays-hushed =
+        acting-hushed L stamps (w .machine) (w .memory) awake (begun first) _ _ e fits judging goes-on silent (q .hushed) nothing-pending
+
     quick-made : step L stamps (w .machine) (w .memory)
         ≡ gives (afterEffect e (w .machine))
-        (putIf (e .puts) (w .memory) (register (w .machine .registers) d) (register (w .machine .registers) s)) Ran
+        (putIf (e .puts) (w .memory) (getD (w .machine .registers) (first % 16) 0) (getD (w .machine .registers) (first / 256 % 16) 0)) Ran
     unfolding register
     quick-made =
-        acting-step L stamps (w .machine) (w .memory) awake (Found row s d) _ _ e fits
-        (fetched-judged L (isHeld (w .machine .visit)) (w .memory) (w .machine .previous) (w .machine .registers) row s d
-        (ap (λ (h : Bool). fetched L h (w .memory) (w .machine .previous) (getD (w .machine .registers) 0 0)) (sym (q .holds)) ∙ f))
-        (q .still .passes (e .cycles) (quickened-few .0) (let h = quickened-few .1 in omega arith))
-        (q .still .empty (e .cycles) (quickened-few .0) (let h = quickened-few .1 in omega arith))
+        acting-step L stamps (w .machine) (w .memory) awake (begun first) _ _ e fits judging goes-on silent (q .hushed) nothing-pending
 
     coded-after : coded e kept (w .machine) ≡ afterEffect e (w .machine)
     unfolding register
@@ -124,27 +121,24 @@ module _ (L : Layout) (stamps : List ℕ) where
 
     -- one more quick step
     pub quickened-next : (bytes : List ℕ)
-        → bytes ≡ putIf (e .puts) (w .memory) (getD (w .machine .registers) (d % 16) 0) (getD (w .machine .registers) (s % 16) 0)
-        → Quickened until held kept from (world (coded e kept (w .machine)) bytes) (k + 1)
+        → bytes ≡ putIf (e .puts) (w .memory) (getD (w .machine .registers) (first % 16) 0) (getD (w .machine .registers) (first / 256 % 16) 0)
+        → Quickened until silent held kept from (world (coded e kept (w .machine)) bytes) (k + 1)
     unfolding LengthKept register
     quickened-next bytes b =
         let h = quickened-few .1 in
-        let put : List ℕ = putIf (e .puts) (w .memory) (getD (w .machine .registers) d 0) (getD (w .machine .registers) s 0) in
-        let c : bytes ≡ put =
-        b ∙ ap (λ (n : ℕ). putIf (e .puts) (w .memory) (getD (w .machine .registers) n 0) (getD (w .machine .registers) (s % 16) 0)) d-digit
-        ∙ ap (λ (n : ℕ). putIf (e .puts) (w .memory) (getD (w .machine .registers) d 0) (getD (w .machine .registers) n 0)) s-digit in
         let made : step L stamps (w .machine) (w .memory) ≡ gives (coded e kept (w .machine)) bytes Ran =
-        quick-made ∙ ap (λ (z : Machine). gives z put Ran) (sym coded-after)
-        ∙ ap (λ (z : List ℕ). gives (coded e kept (w .machine)) z Ran) (sym c) in
+        quick-made ∙ ap (λ (z : Machine). gives z (putIf (e .puts) (w .memory) (getD (w .machine .registers) (first % 16) 0) (getD (w .machine .registers) (first / 256 % 16) 0)) Ran) (sym coded-after)
+        ∙ ap (λ (z : List ℕ). gives (coded e kept (w .machine)) z Ran) (sym b) in
         let u = q .still .bounded in
         record {
           size = ap (λ (z : Step). length (z .memory)) (sym made) ∙ length-kept L stamps (w .machine) (w .memory) ∙ q .size;
           leads = on k (k + 1) w _ (q .leads) awake (omega arith) made refl;
-          still = still-later stamps (w .machine .time) until (e .cycles) (q .still) (quickened-few .0) (omega arith);
+          still = still-later stamps silent (w .machine .time) until (e .cycles) (q .still) (quickened-few .0) (omega arith);
           running = q .running;
           holds = q .holds;
           keeps = q .keeps ∙ saved-again (w .machine .visit) (w .machine .saved) ∙ ap (savedFor (w .machine .visit)) (sym (q .keeps));
           room = omega arith;
+          hushed = λ l. ap (λ (z : Machine). gie (sr (z .registers))) coded-after ∙ stays-hushed l;
         }
 
   -- ---- a turn of a run

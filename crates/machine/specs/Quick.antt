@@ -3,18 +3,13 @@
 use mathlib.Core.Path.{_≡_}
 use mathlib.Core.Bool.{Bool, true, false, not}
 use mathlib.Core.List.{List, [], _∷_}
-use Prim.Native.Nat.{ℕ, _+_, _-_, _≤_}
+use Prim.Native.Nat.{ℕ, _+_, _-_, _/_, _%_, _≤_}
 use lib.Dec.{ltb, eqb}
 use lib.ListN.{length, set}
 use Rattle.base.specs.Test.{if_then_else_, all}
 use Rattle.base.specs.Word.{even, sum16}
 use Rattle.isa.specs.declared.instruction.Operation.{Operation}
 use Rattle.isa.specs.declared.instruction.Operation.the-variants.{Add, Sub, Cmp, And}
-use Rattle.isa.specs.declared.table.Row.{Row}
-use Rattle.isa.specs.declared.table.Row.the-variants.{Hlt, In, Out, Jz, Reti, Nop, Jmp, Mov, Load, Store, Immediate, Compute, Not}
-use Rattle.isa.specs.declared.read.Begun.{Begun}
-use Rattle.isa.specs.declared.read.Begun.the-variants.{Nothing, Found}
-use Rattle.isa.specs.Words.{begun}
 use Rattle.alu.specs.declared.arithmetic.Computed.{Computed}
 use Rattle.alu.specs.Arithmetic.{computed}
 use Rattle.alu.specs.Status.{zero, setFlags}
@@ -43,18 +38,17 @@ later n t = record { clock = t .clock + n; slot = t .slot; alarm = t .alarm }
 abbrev pub Misses : ℕ → Stamp → ℕ → Type 0
 Misses clock stamp until = (b : ℕ) → b ≤ until → happening clock b stamp ≡ Never
 
--- up to this clock value nothing is pending and no request happens
-pub record Still (stamps : List ℕ) (t : Time) (until : ℕ) : Type 0 where
+-- up to this clock value time only goes on; nothing is pending, or the machine is silent, with GIE clear
+pub record Still (stamps : List ℕ) (silent : Bool) (t : Time) (until : ℕ) : Type 0 where
   pub bounded : until ≤ lastClock
-  pub empty : (n : ℕ) → 1 ≤ n → t .clock + n ≤ until → t .slot ≡ Never
+  pub empty : (n : ℕ) → 1 ≤ n → t .clock + n ≤ until → silent ≡ false → t .slot ≡ Never
   pub passes : (n : ℕ) → 1 ≤ n → t .clock + n ≤ until → pass stamps n t ≡ later n t
 
--- what the word at pc begins, if it may be executed: causes 1 to 3
-unfoldable pub fetched : Layout → Bool → List ℕ → ℕ → ℕ → Begun
-fetched L held mem previous a =
-    if not (may L previous execute a) then Nothing
-    else if all (inside L a ∷ held ∷ []) then Nothing
-    else begun (wordAt mem a)
+-- the word at this address may be executed: causes 1 and 2 do not hold
+unfoldable pub fetchable : Layout → Bool → ℕ → ℕ → Bool
+fetchable L held previous a =
+    if not (may L previous execute a) then false
+    else not (all (inside L a ∷ held ∷ []))
 
 -- only pc is set
 abbrev pub leading : ℕ → ℕ → Bool → ℕ → Quick
@@ -66,53 +60,73 @@ setting to d w status n =
     if ltb d 4 then Rare
     else Does (record { to = to; number = d; word = w; status = status; puts = false; cycles = n })
 
--- the instruction at a, with the status, its source x and its destination y
+-- the instruction at a, with the status, the registers x and y of its second and last digits, and memory
 module _ (a status : ℕ) where
-  -- ADD, SUB, CMP, AND
+  -- ADD, SUB, CMP, AND: as0d
   abbrev pub computing : Operation → ℕ → Computed → Quick
   computing Add d c = setting (sum16 a 2) d (c .result) (setFlags status c) 1
   computing Sub d c = setting (sum16 a 2) d (c .result) (setFlags status c) 1
   computing Cmp d c = leading (sum16 a 2) (setFlags status c) false 1
   computing And d c = setting (sum16 a 2) d (c .result) (setFlags status c) 1
 
+  -- those by the third digit
+  unfoldable pub grouped : ℕ → ℕ → Operation → ℕ → ℕ → Quick
+  grouped x y o c d = if eqb c 0 then computing o d (computed o x y) else Rare
+
   -- JZ
   unfoldable pub branching : ℕ → Quick
   branching x = if zero status then leading (even x) status false 2 else leading (sum16 a 2) status false 2
 
-  module _ (L : Layout) (mem : List ℕ) where
-    -- MOV @s d
-    unfoldable pub loading : ℕ → ℕ → Quick
-    loading x d = if may L a read (even x) then setting (sum16 a 2) d (wordAt mem x) status 2 else Rare
+  -- 4s0d: JMP, NOP, MOV s d
+  unfoldable pub registering : ℕ → ℕ → ℕ → Quick
+  registering x s d =
+      if eqb d 0 then leading (even x) status false 2
+      else if all (eqb s 3 ∷ eqb d 3 ∷ []) then leading (sum16 a 2) status false 1
+      else setting (sum16 a 2) d x status 1
 
-    -- MOV #w d
-    unfoldable pub constant : ℕ → Quick
-    constant d =
-        if sameSide L a (sum16 a 2) then setting (sum16 a 4) d (wordAt mem (sum16 a 2)) status 2
+  module _ (L : Layout) (mem : List ℕ) where
+    -- 4s2d: MOV @s d
+    unfoldable pub loading : ℕ → ℕ → ℕ → Quick
+    loading x s d =
+        if ltb s 4 then Rare
+        else if may L a read (even x) then setting (sum16 a 2) d (wordAt mem x) status 2
         else Rare
 
-    -- MOV s 0(d)
-    unfoldable pub storing : ℕ → Quick
-    storing y =
-        if not (sameSide L a (sum16 a 2)) then Rare
+    -- 403d: MOV #w d
+    unfoldable pub constant : ℕ → ℕ → Quick
+    constant s d =
+        if not (eqb s 0) then Rare
+        else if sameSide L a (sum16 a 2) then setting (sum16 a 4) d (wordAt mem (sum16 a 2)) status 2
+        else Rare
+
+    -- 4s8d: MOV s 0(d)
+    unfoldable pub storing : ℕ → ℕ → Quick
+    storing y d =
+        if ltb d 4 then Rare
+        else if not (sameSide L a (sum16 a 2)) then Rare
         else if not (eqb (wordAt mem (sum16 a 2)) 0) then Rare
         else if may L a write (even y) then leading (sum16 a 4) status true 4
         else Rare
 
-    -- by the row; HLT, IN, OUT, RETI and NOT are left to the step
-    abbrev pub quick : ℕ → ℕ → Row → ℕ → Quick
-    quick x y Hlt d = Rare
-    quick x y In d = Rare
-    quick x y Out d = Rare
-    quick x y Jz d = branching x
-    quick x y Reti d = Rare
-    quick x y Nop d = leading (sum16 a 2) status false 1
-    quick x y Jmp d = leading (even x) status false 2
-    quick x y Mov d = setting (sum16 a 2) d x status 1
-    quick x y Load d = loading x d
-    quick x y Store d = storing y
-    quick x y Immediate d = constant d
-    quick x y (Compute o) d = computing o d (computed o x y)
-    quick x y Not d = Rare
+    -- 4scd: the moves
+    unfoldable pub moving : ℕ → ℕ → ℕ → ℕ → ℕ → Quick
+    moving x y s c d =
+        if eqb c 0 then registering x s d
+        else if eqb c 2 then loading x s d
+        else if eqb c 3 then constant s d
+        else if eqb c 8 then storing y d
+        else Rare
+
+    -- by the first word's digits; whatever else there is, is left to the step
+    unfoldable pub quick : ℕ → ℕ → ℕ → Quick
+    quick x y w =
+        if eqb (w / 4096) 4 then moving x y (w / 256 % 16) (w / 16 % 16) (w % 16)
+        else if eqb (w / 4096) 5 then grouped x y Add (w / 16 % 16) (w % 16)
+        else if eqb (w / 4096) 8 then grouped x y Sub (w / 16 % 16) (w % 16)
+        else if eqb (w / 4096) 9 then grouped x y Cmp (w / 16 % 16) (w % 16)
+        else if eqb (w / 4096) 15 then grouped x y And (w / 16 % 16) (w % 16)
+        else if eqb (w / 16) 3 then branching y
+        else Rare
 
 -- the registers that an effect sets: pc, one more, the status
 abbrev pub affected : Effect → List ℕ → List ℕ

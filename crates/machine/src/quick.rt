@@ -1,12 +1,14 @@
 // The quick way of a step: a common instruction, where no request is near. Registers are changed where they lie.
 ghost use mathlib.Core.Path.{_≡_};
-ghost use Prim.Native.Nat.{_≤_};
+ghost use Prim.Native.Nat.{_/_, _≤_};
+ghost use lib.Dec.{eqb};
 ghost use lib.ListN.{length};
-ghost use Rattle.alu.specs.declared.arithmetic.Computed.{Computed};
+ghost use Rattle.base.specs.Test.{if_then_else_};
 ghost use Rattle.alu.specs.Arithmetic.{computed};
+ghost use Rattle.machine.specs.declared.quick.Quick.the-variants.{Rare as RARE};
 ghost use Rattle.machine.specs.State.{world};
 ghost use Rattle.machine.specs.Place.{Ready};
-ghost use Rattle.machine.specs.Quick.{fetched, leading, setting, computing, branching, loading, constant, storing, quick, putIf, Leads};
+ghost use Rattle.machine.specs.Quick.{fetchable, leading, setting, computing, grouped, branching, registering, loading, constant, storing, moving, quick, putIf, Leads};
 use crate::memory::put_word;
 use crate::memory::word_at;
 use crate::state::Machine;
@@ -15,14 +17,13 @@ use crate::step::saved_for;
 use crate::time::advance;
 use crate::time::still_until;
 use alu::arithmetic::compute;
+use alu::status::gie_is_set;
 use alu::status::set_flags;
 use alu::status::zero_is_set;
 use base::test::both;
 use base::word::drop_bit_0;
 use base::word::sum;
 use isa::instruction::Operation;
-use isa::read::Begun;
-use isa::table::Row;
 use layout::access::Right;
 use layout::sections::Layout;
 
@@ -48,18 +49,14 @@ pub struct Went {
     pub steps: u64,
 }
 
-// What the word at pc begins, if it may be executed.
-fn fetch(layout: Layout, held: bool, mem: &[u8], previous: u16, pc: u16) -> Begun
-    requires { ⌜ length (now mem) ≡ 65536 ⌝ }
-    ensures { λ r. ⌜ r ≡ fetched layout held (now (mem .entry)) previous pc ⌝ }
+// The word at pc may be executed.
+fn may_fetch(layout: Layout, held: bool, previous: u16, pc: u16) -> bool
+    ensures { λ r. ⌜ r ≡ fetchable layout held previous pc ⌝ }
 {
     if !layout.may(previous, Right::Execute, pc) {
-        return Begun::Nothing;
+        return false;
     }
-    if both(layout.inside(pc), held) {
-        return Begun::Nothing;
-    }
-    Begun::begin(word_at(mem, pc))
+    !both(layout.inside(pc), held)
 }
 
 // Only pc is set.
@@ -107,6 +104,16 @@ fn quick_compute(a: u16, status: u16, x: u16, y: u16, o: Operation, d: u8) -> Qu
     }
 }
 
+// Those by the third digit.
+fn quick_group(a: u16, status: u16, x: u16, y: u16, o: Operation, c: u8, d: u8) -> Quick
+    ensures { λ r. ⌜ r ≡ grouped a status x y o c d ⌝ }
+{
+    if c == 0 {
+        return quick_compute(a, status, x, y, o, d);
+    }
+    Quick::Rare
+}
+
 // JZ.
 fn quick_branch(a: u16, status: u16, x: u16) -> Quick
     ensures { λ r. ⌜ r ≡ branching a status x ⌝ }
@@ -117,35 +124,57 @@ fn quick_branch(a: u16, status: u16, x: u16) -> Quick
     lead(sum(a, 2), status, false, 2)
 }
 
-// MOV @s d.
-fn quick_load(a: u16, status: u16, x: u16, layout: Layout, mem: &[u8], d: u8) -> Quick
-    requires { ⌜ length (now mem) ≡ 65536 ⌝ }
-    ensures { λ r. ⌜ r ≡ loading a status layout (now (mem .entry)) x d ⌝ }
+// 4s0d: JMP, NOP, MOV s d.
+fn quick_register(a: u16, status: u16, x: u16, s: u8, d: u8) -> Quick
+    ensures { λ r. ⌜ r ≡ registering a status x s d ⌝ }
 {
+    if d == 0 {
+        return lead(drop_bit_0(x), status, false, 2);
+    }
+    if both(s == 3, d == 3) {
+        return lead(sum(a, 2), status, false, 1);
+    }
+    set_general(sum(a, 2), d, x, status, 1)
+}
+
+// 4s2d: MOV @s d.
+fn quick_load(a: u16, status: u16, layout: Layout, mem: &[u8], x: u16, s: u8, d: u8) -> Quick
+    requires { ⌜ length (now mem) ≡ 65536 ⌝ }
+    ensures { λ r. ⌜ r ≡ loading a status layout (now (mem .entry)) x s d ⌝ }
+{
+    if s < 4 {
+        return Quick::Rare;
+    }
     if layout.may(a, Right::Read, drop_bit_0(x)) {
         return set_general(sum(a, 2), d, word_at(mem, x), status, 2);
     }
     Quick::Rare
 }
 
-// MOV #w d.
-fn quick_constant(a: u16, status: u16, layout: Layout, mem: &[u8], d: u8) -> Quick
+// 403d: MOV #w d.
+fn quick_constant(a: u16, status: u16, layout: Layout, mem: &[u8], s: u8, d: u8) -> Quick
     requires { ⌜ length (now mem) ≡ 65536 ⌝ }
-    ensures { λ r. ⌜ r ≡ constant a status layout (now (mem .entry)) d ⌝ }
+    ensures { λ r. ⌜ r ≡ constant a status layout (now (mem .entry)) s d ⌝ }
 {
     let second = sum(a, 2);
+    if s != 0 {
+        return Quick::Rare;
+    }
     if layout.same_side(a, second) {
         return set_general(sum(a, 4), d, word_at(mem, second), status, 2);
     }
     Quick::Rare
 }
 
-// MOV s 0(d).
-fn quick_store(a: u16, status: u16, y: u16, layout: Layout, mem: &[u8]) -> Quick
+// 4s8d: MOV s 0(d).
+fn quick_store(a: u16, status: u16, layout: Layout, mem: &[u8], y: u16, d: u8) -> Quick
     requires { ⌜ length (now mem) ≡ 65536 ⌝ }
-    ensures { λ r. ⌜ r ≡ storing a status layout (now (mem .entry)) y ⌝ }
+    ensures { λ r. ⌜ r ≡ storing a status layout (now (mem .entry)) y d ⌝ }
 {
     let second = sum(a, 2);
+    if d < 4 {
+        return Quick::Rare;
+    }
     if !layout.same_side(a, second) {
         return Quick::Rare;
     }
@@ -158,34 +187,55 @@ fn quick_store(a: u16, status: u16, y: u16, layout: Layout, mem: &[u8]) -> Quick
     Quick::Rare
 }
 
-// What the instruction at a does, with the status, its source x and its destination y.
-fn quick_effect(
+// 4scd: the moves.
+fn quick_move(
     a: u16,
     status: u16,
-    x: u16,
-    y: u16,
     layout: Layout,
     mem: &[u8],
-    row: Row,
+    x: u16,
+    y: u16,
+    s: u8,
+    c: u8,
     d: u8,
 ) -> Quick
     requires { ⌜ length (now mem) ≡ 65536 ⌝ }
-    ensures { λ r. ⌜ r ≡ quick a status layout (now (mem .entry)) x y row d ⌝ }
+    ensures { λ r. ⌜ r ≡ moving a status layout (now (mem .entry)) x y s c d ⌝ }
 {
-    match row {
-        Row::Hlt => Quick::Rare,
-        Row::In => Quick::Rare,
-        Row::Out => Quick::Rare,
-        Row::Jz => quick_branch(a, status, x),
-        Row::Reti => Quick::Rare,
-        Row::Nop => lead(sum(a, 2), status, false, 1),
-        Row::Jmp => lead(drop_bit_0(x), status, false, 2),
-        Row::Mov => set_general(sum(a, 2), d, x, status, 1),
-        Row::Load => quick_load(a, status, x, layout, mem, d),
-        Row::Store => quick_store(a, status, y, layout, mem),
-        Row::Immediate => quick_constant(a, status, layout, mem, d),
-        Row::Compute(o) => quick_compute(a, status, x, y, o, d),
-        Row::Not => Quick::Rare,
+    match c {
+        0 => quick_register(a, status, x, s, d),
+        2 => quick_load(a, status, layout, mem, x, s, d),
+        3 => quick_constant(a, status, layout, mem, s, d),
+        8 => quick_store(a, status, layout, mem, y, d),
+        _ => Quick::Rare,
+    }
+}
+
+// JZ, or what is left to the step.
+fn quick_jump(a: u16, status: u16, y: u16, w: u16) -> Quick
+    ensures { λ r. ⌜ r ≡ (if eqb (w / 16) 3 then branching a status y else RARE) ⌝ }
+{
+    if w / 16 == 3 {
+        return quick_branch(a, status, y);
+    }
+    Quick::Rare
+}
+
+// What the instruction at a does, whose first word is w.
+fn quick_effect(a: u16, status: u16, layout: Layout, mem: &[u8], x: u16, y: u16, w: u16) -> Quick
+    requires { ⌜ length (now mem) ≡ 65536 ⌝ }
+    ensures { λ r. ⌜ r ≡ quick a status layout (now (mem .entry)) x y w ⌝ }
+{
+    let s = (w / 256 % 16) as u8;
+    let c = (w / 16 % 16) as u8;
+    let d = (w % 16) as u8;
+    match w / 4096 {
+        4 => quick_move(a, status, layout, mem, x, y, s, c, d),
+        5 => quick_group(a, status, x, y, Operation::Add, c, d),
+        8 => quick_group(a, status, x, y, Operation::Sub, c, d),
+        9 => quick_group(a, status, x, y, Operation::Cmp, c, d),
+        15 => quick_group(a, status, x, y, Operation::And, c, d),
+        _ => quick_jump(a, status, y, w),
     }
 }
 
@@ -218,7 +268,9 @@ pub fn quick_steps(
     let saved = m.saved;
     let held = is_held(visit);
     let kept = saved_for(visit, saved);
-    let until = still_until(m.halted, time, stamps, advance(stamps, place, time.clock));
+    let silent = !gie_is_set(m.registers[2]);
+    let next = advance(stamps, place, time.clock);
+    let until = still_until(m.halted, silent, time, stamps, next);
     let mut current = m;
     let mut steps: u64 = 0;
     while steps < left {
@@ -227,13 +279,13 @@ pub fn quick_steps(
             break;
         }
         let pc = current.registers[0];
-        let Begun::Found(row, s, d) = fetch(layout, held, mem, current.previous, pc) else {
+        if !may_fetch(layout, held, current.previous, pc) {
             break;
-        };
-        let x = current.registers[(s % 16) as usize];
-        let y = current.registers[(d % 16) as usize];
-        let Quick::Does(e) = quick_effect(pc, current.registers[2], x, y, layout, mem, row, d)
-        else {
+        }
+        let w = word_at(mem, pc);
+        let x = current.registers[(w / 256 % 16) as usize];
+        let y = current.registers[(w % 16) as usize];
+        let Quick::Does(e) = quick_effect(pc, current.registers[2], layout, mem, x, y, w) else {
             break;
         };
         let n = (e.number % 16) as usize;

@@ -1,10 +1,11 @@
 // The clock, the requests and the pending slot that takes them.
 ghost use mathlib.Core.Path.{_≡_};
-ghost use mathlib.Core.Bool.{true};
+ghost use mathlib.Core.Bool.{true, false};
 ghost use Prim.Native.Nat.{_+_, _≤_, _^_};
 ghost use Rattle.machine.specs.Time.{startTime, happens, happening, earlier, filledBy, alarmLeft, emptied, setAlarm, deviceWord, pass};
 ghost use Rattle.machine.specs.Calls.{timetable};
 ghost use Rattle.machine.specs.Place.{stampAt, Passed, RightPlace, Ready};
+ghost use Rattle.machine.specs.Run.{lastClock};
 ghost use Rattle.machine.specs.Quick.{Misses, Still};
 use crate::state::Stamp;
 use crate::state::Time;
@@ -164,10 +165,20 @@ fn before_stamp(clock: u64, stamp: Stamp, until: u64) -> u64
     }
 }
 
-// A clock value up to which nothing is pending and no request happens, at most 2^62; 0 where there is none.
-pub fn still_until(halted: bool, t: Time, stamps: &[u64], place: usize) -> u64
+// While a request is pending others merge into it, so only the alarm counts; 0 where the machine is not silent.
+fn alarm_until(silent: bool, clock: u64, alarm: Stamp) -> u64
+    ensures { λ r. ⌜ (r ≤ lastClock) × Misses clock alarm r × (silent ≡ false → r ≡ 0) ⌝ }
+{
+    if silent {
+        return before_stamp(clock, alarm, 0x4000_0000_0000_0000);
+    }
+    0
+}
+
+// A clock value up to which time only goes on and no interrupt is due, at most 2^62; 0 where there is none.
+pub fn still_until(halted: bool, silent: bool, t: Time, stamps: &[u64], place: usize) -> u64
     requires { ⌜ (timetable (now stamps) ≡ true) × RightPlace (now stamps) (t .clock) place ⌝ }
-    ensures { λ r. ⌜ Still (now (stamps .entry)) t r × (halted ≡ true → r ≡ 0) ⌝ }
+    ensures { λ r. ⌜ Still (now (stamps .entry)) silent t r × (halted ≡ true → r ≡ 0) ⌝ }
 {
     let slot = t.slot;
     let alarm = t.alarm;
@@ -175,7 +186,7 @@ pub fn still_until(halted: bool, t: Time, stamps: &[u64], place: usize) -> u64
         return 0;
     }
     match slot {
-        Stamp::At(_) => 0,
+        Stamp::At(_) => alarm_until(silent, t.clock, alarm),
         Stamp::Never => {
             let until = before_stamp(t.clock, alarm, 0x4000_0000_0000_0000);
             before_stamp(t.clock, stamp_at(stamps, place), until)

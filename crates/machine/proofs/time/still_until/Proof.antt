@@ -2,16 +2,19 @@ use mathlib.Core.Path.{refl, sym, _∙_, ap}
 use mathlib.Core.Bool.{true≢false}
 use native.Mathlib.Omega.{arith}
 use Rattle.machine.specs.Time.{happening}
-use Rattle.machine.proofs.StillLaws.{still-zero, still-by}
+use Rattle.machine.proofs.StillLaws.{still-zero, still-pending, still-by}
 use borrow.Author.Needs.{needs}
 use Rattle.machine.proofs.time.still_until.Statement.{statement}
 use Rattle.machine.proofs.time.still_until.Tie as tie
 
 returns : tie.Need-returns
-returns c = (still-zero _ _, λ h. refl)
+returns c = (still-zero _ _ _, λ h. refl)
 
 enum-told : tie.Need-enum-told
 enum-told c = search needs
+
+alarm-until-requires : tie.Need-alarm-until-requires
+alarm-until-requires c κs = search needs
 
 enum-told-2 : tie.Need-enum-told-2
 enum-told-2 c = search needs
@@ -26,16 +29,17 @@ before-stamp-requires-2 : tie.Need-before-stamp-requires-2
 before-stamp-requires-2 c κs = search needs
 
 returns-2 : tie.Need-returns-2
-returns-2 c = (still-zero _ _, λ h. refl)
+returns-2 c =
+    let a = c .alarm-until .ensures in
+    (still-pending _ _ _ _ _ (c .before .enum-told .given .1) (a .0) (a .1) (a .2), λ h. absurd (true≢false (sym h ∙ c .before .before .before .if1 .left)))
 
 returns-3 : tie.Need-returns-3
-returns-3 c =
-    let pre = c .before .before .before .before .before .before .before .pre in
+returns-3 c = let pre = c .before .before .before .before .before .before .before .pre in
     let one = c .before .before .before-stamp .ensures in
     let two = c .before-stamp2 .ensures in
     let i = one .0 in
     let j = two .0 in (
-      still-by _ _ _ _ (c .before .before .before .enum-told2 .given .1) (omega arith) (pre .0) (pre .1)
+      still-by _ _ _ _ _ (c .before .before .before .enum-told2 .given .1) (omega arith) (pre .0) (pre .1)
           (λ b k. one .1 b (omega arith))
           (λ b k. ap (happening _ b) (sym (c .before .stamp-at .ensures)) ∙ two .1 b k),
       λ h. absurd (true≢false (sym h ∙ c .before .before .before .before .before .if1 .left)),
@@ -47,6 +51,7 @@ still-until-spec =
     (tie.spec
     returns
     enum-told
+    alarm-until-requires
     enum-told-2
     before-stamp-requires
     stamp-at-requires
