@@ -4,7 +4,7 @@ use mathlib.Core.Bool.{Bool, true, false, not, true≢false}
 use mathlib.Core.List.{List, [], _∷_}
 use Prim.Native.Nat.{ℕ, zero, suc, _+_, _*_, _/_, _%_, _≤_, _<_}
 use native.Mathlib.Omega.{arith}
-use lib.Dec.{ltb, leb, eqb}
+use lib.Dec.{ltb, eqb}
 use lib.ListN.{set}
 use borrow.Author.Tests.{ltb-false, eqb-true, ne-eqb, lt-leb, not-true, not-false}
 use Rattle.base.specs.Test.{if_then_else_, all}
@@ -328,7 +328,6 @@ module _ (L : Layout) (held : Bool) (rs mem : List ℕ) where
       else Rare)
   unfolding judgeFirst judgeSecond judgeWords twoWords finished allMay registersAfter memoryAfter past putIf
   store-sound s d =
-      let P : Quick → Type 0 = Sound (Found STORE s d) (register rs s) (register rs d) in
       let done : Quick = leading (sum16 (pc rs) 4) (sr rs) true 4 in
       let may-put : Bool = may L (pc rs) write (even (register rs d)) in
       let two : Quick = if may-put then done else Rare in

@@ -2,12 +2,11 @@
 use mathlib.Core.Path.{_≡_, refl, sym, _∙_, ap, subst}
 use mathlib.Core.Bool.{Bool, true, false}
 use mathlib.Core.List.{List}
-use Prim.Native.Nat.{ℕ, zero, suc, _+_, _-_, _/_, _%_, _≤_, _<_, _^_}
+use Prim.Native.Nat.{ℕ, suc, _+_, _-_, _/_, _%_, _≤_, _^_}
 use native.Mathlib.Omega.{arith}
 use lib.ListN.{length, getD, set}
 use Rattle.base.proofs.Tests.{cases}
 use Rattle.isa.specs.Words.{begun}
-use Rattle.isa.specs.Cycles.{cyclesOf}
 use Rattle.alu.specs.Status.{gie}
 use Rattle.layout.specs.declared.sections.Layout.{Layout}
 use Rattle.machine.specs.declared.state.Stamp.the-variants.{Never}

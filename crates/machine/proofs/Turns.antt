@@ -1,5 +1,5 @@
 -- What each turn of a run's loop keeps: what is left to do from here lands where the whole run lands. Assumes nothing.
-use mathlib.Core.Path.{_≡_, refl, sym, _∙_, ap}
+use mathlib.Core.Path.{_≡_, _∙_, ap}
 use mathlib.Core.Bool.{true, false}
 use mathlib.Core.List.{List}
 use Prim.Native.Nat.{ℕ, zero, suc, _+_, _-_, _≤_, _<_}
@@ -14,7 +14,7 @@ use Rattle.machine.specs.declared.answer.End.the-variants.{Halted, Clock
 use Rattle.machine.specs.declared.interrupt.Moved.{Moved}
 use Rattle.machine.specs.State.{World, world}
 use Rattle.machine.specs.Interrupt.{Step, moved}
-use Rattle.machine.specs.Run.{lastClock, goes, stops, ending, Stop, worldAfter, stepOf, runFrom, run, stopOr}
+use Rattle.machine.specs.Run.{lastClock, goes, stops, ending, worldAfter, runFrom, run, stopOr}
 use Rattle.machine.specs.Place.{Passed, RightPlace, Ready}
 use Rattle.machine.specs.Calls.{timetable}
 use Rattle.machine.specs.Quick.{Turn}

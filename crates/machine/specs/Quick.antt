@@ -1,4 +1,4 @@
--- The quick way of a step: a common instruction, where no request is near, sets pc, one more register and the status, or puts a word.
+-- The quick way of a step: a common instruction of which no interrupt can come sets pc, one more register and the status, or puts a word.
 -- It looks at no other register than it is handed, and is proved to do what the step does.
 use mathlib.Core.Path.{_≡_}
 use mathlib.Core.Bool.{Bool, true, false, not}

@@ -1,4 +1,4 @@
-// The quick way of a step: a common instruction, where no request is near. Registers are changed where they lie.
+// The quick way of a step: a common instruction of which no interrupt can come. Registers are changed where they lie.
 ghost use mathlib.Core.Path.{_≡_};
 ghost use Prim.Native.Nat.{_/_, _≤_};
 ghost use lib.Dec.{eqb};

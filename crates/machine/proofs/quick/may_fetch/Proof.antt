@@ -1,6 +1,4 @@
 use mathlib.Core.Path.{sym}
-use mathlib.Core.Bool.{not}
-use mathlib.Core.Path.{ap}
 use Rattle.base.specs.Test.{if_then_else_}
 use Rattle.machine.specs.Quick.{fetchable}
 use borrow.Author.Needs.{needs}

@@ -1,4 +1,4 @@
-use mathlib.Core.Path.{sym, _∙_, ap}
+use mathlib.Core.Path.{_∙_, ap}
 use native.Mathlib.Omega.{arith}
 use denote.Ref.{now}
 use Rattle.machine.specs.State.{World}
