@@ -5,6 +5,7 @@ use Prim.Native.Nat.{ℕ}
 use Rattle.base.specs.declared.refusal.Refusal.{Refusal}
 use Rattle.base.specs.Refusal.{refusalNumber}
 use Rattle.layout.specs.declared.sections.Layout.{Layout}
+use Rattle.machine.specs.declared.state.Control.{Control}
 use Rattle.machine.specs.declared.state.Machine.{Machine}
 use Rattle.machine.specs.declared.answer.Outcome.{Outcome}
 use Rattle.machine.specs.declared.answer.End.{End}
@@ -12,15 +13,17 @@ use Rattle.machine.specs.declared.answer.Started.{Started}
 use Rattle.machine.specs.declared.answer.Stepped.{Stepped}
 use Rattle.machine.specs.declared.answer.Ran.{Ran}
 use Rattle.machine.specs.declared.answer.StartAnswer.the-variants.{Made as HasStarted, Refused as NotStarted}
+use Rattle.machine.specs.declared.answer.StepAnswer.{StepAnswer}
 use Rattle.machine.specs.declared.answer.StepAnswer.the-variants.{Made as HasStepped, Refused as NotStepped}
 use Rattle.machine.specs.declared.answer.RunAnswer.the-variants.{Made as HasRun, Refused as NotRun}
 use Rattle.machine.specs.State.{world}
 use Rattle.machine.specs.Outcome.{kindLetter, endLetter}
-use Rattle.machine.specs.Calls.{startCall, stepCall, runCall, startRefusal, stepRefusal, runRefusal, started, stepped, ran}
+use Rattle.machine.specs.Calls.{startCall, stepCall, runCall, startRefusal, stepRefusal, runRefusal, Untouched, started, stepped, ran}
+use Rattle.machine.specs.Lent.{joined}
 use Rattle.embed.specs.Kept.{unlessRefused}
-use Rattle.embed.specs.State.{layoutOf, Numbers, machineOf, numbersOf}
+use Rattle.embed.specs.State.{layoutOf, timeFields, controlFields, controlFrom, Numbers, numbers, machineOf, numbersOf}
 use Rattle.embed.specs.Calls.{stepOn, runOn, causeOf, stepKind, stepCause, runEnd, runSteps}
-use Rattle.embed.proofs.KeptLaws.{kept, given}
+use Rattle.embed.proofs.KeptLaws.{no-number, kept, given}
 
 -- ---- start
 
@@ -39,6 +42,26 @@ module _ (before : Numbers) (mem : List ℕ) (done : Started) (e : done ≡ star
   )
 
 -- ---- step and run, on what stands for the caller's numbers
+
+-- the machine of lent registers and what stands beside them
+pub lent-machine : (registers saved control time : List ℕ) (c : Control) → c ≡ controlFrom control time
+    → joined registers saved c ≡ machineOf (numbers registers saved control time)
+unfolding machineOf
+lent-machine registers saved control time c e = ap (joined registers saved) e
+
+-- its numbers
+pub lent-numbers : (registers saved control time : List ℕ) (c : Control) → control ≡ controlFields (c .previous) (c .halted) (c .visit)
+    → time ≡ timeFields (c .time) → numbers registers saved control time ≡ numbersOf (joined registers saved c)
+unfolding numbersOf
+lent-numbers registers saved control time c e f = rw (e, f)
+
+-- a refused step leaves lent registers as they came
+pub lent-untouched : (registers saved registers' saved' mem bytes control time : List ℕ) (c d : Control) (answer : StepAnswer) (r : Refusal)
+    → answer ≡ NotStepped r
+    → Untouched (stepRefusal answer) (world (joined registers saved c) mem) (world (joined registers' saved' d) bytes)
+    → numbers registers' saved' control time ≡ numbers registers saved control time
+lent-untouched registers saved registers' saved' mem bytes control time c d answer r h u =
+    ap (λ (m : Machine). numbers (m .registers) (m .saved) control time) (u (λ z. no-number r (sym (ap stepRefusal h) ∙ z)) .0)
 
 module _
     (before : Numbers) (mem layout stamps : List ℕ) (L : Layout) (l : L ≡ layoutOf layout) (m : Machine)
@@ -60,15 +83,16 @@ module _
     step-memory : bytes ≡ stepOn before mem layout stamps .memory
     step-memory = rw step-by at f
 
-    pub step-refused : (r : Refusal) → done .answer ≡ NotStepped r → (n : ℕ) → n ≡ refusalNumber r → (kind cause : ℕ)
+    pub step-refused : (r : Refusal) → done .answer ≡ NotStepped r → (n : ℕ) → n ≡ refusalNumber r → (after : Numbers) → after ≡ before
+        → (kind cause : ℕ)
         → (n ≡ stepRefusal (stepOn before mem layout stamps .answer))
         × ((bytes ≡ stepOn before mem layout stamps .memory)
-        × ((before ≡ unlessRefused n (numbersOf (stepOn before mem layout stamps .machine)) before)
+        × ((after ≡ unlessRefused n (numbersOf (stepOn before mem layout stamps .machine)) before)
         × ((kind ≡ unlessRefused n (stepKind (stepOn before mem layout stamps .answer)) kind)
         × (cause ≡ unlessRefused n (stepCause (stepOn before mem layout stamps .answer)) cause))))
-    step-refused r h n k kind cause = (
+    step-refused r h n k after u kind cause = (
       k ∙ ap stepRefusal (sym h ∙ ap (λ (x : Stepped). x .answer) step-handed),
-      (step-memory, (kept n r k _ _, (kept n r k _ _, kept n r k _ _))),
+      (step-memory, (u ∙ kept n r k _ _, (kept n r k _ _, kept n r k _ _))),
     )
 
     pub step-taken : (o : Outcome) → done .answer ≡ HasStepped o → (after : Numbers) → after ≡ numbersOf (done .machine)

@@ -20,7 +20,7 @@ use Rattle.machine.proofs.CallLaws.{first-holds}
 use Rattle.embed.specs.State.{layoutOf, oddFlag, visitOf, Numbers, machineOf}
 use Rattle.embed.specs.Calls.{stepOn, runOn}
 use Rattle.embed.specs.Laws.{OddFlagUnframed, OddFlagRefused}
-use Rattle.embed.proofs.KeptLaws.{not-zero}
+use Rattle.embed.proofs.KeptLaws.{no-number}
 
 -- they are read as a visit of age 255
 odd-visit : (fields : List ℕ) → oddFlag fields ≡ true → visitOf fields ≡ Held (getD fields 3 0) 255
@@ -31,10 +31,6 @@ pub odd-flag-unframed : OddFlagUnframed
 unfolding OddFlagUnframed machineOf
 odd-flag-unframed L n h =
     never _ (λ f. let b = held-framed L (machineOf n) _ 255 f (odd-visit (n .control) h) .age-bound in omega arith)
-
--- a verdict that is not taken has a number
-no-number : (r : Refusal) → refusalNumber r ≡ 0 → ⊥
-no-number r e = true≢false (sym (eq-eqb _ _ e) ∙ not-zero r)
 
 module _ (L : Layout) (stamps : List ℕ) (w : World) where
   step-number : (v : Verdict) → (v ≡ taken → ⊥) → stepRefusal (stepAnswered L stamps w v .answer) ≡ 0 → ⊥

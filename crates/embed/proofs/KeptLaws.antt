@@ -1,8 +1,9 @@
 -- What is lent, by the number that a call answers. Assumes nothing.
-use mathlib.Core.Path.{_≡_, refl, sym}
-use mathlib.Core.Bool.{false}
+use mathlib.Core.Path.{_≡_, refl, sym, _∙_}
+use mathlib.Core.Bool.{false, true≢false}
 use Prim.Native.Nat.{ℕ}
 use lib.Dec.{eqb}
+use borrow.Author.Tests.{eq-eqb}
 use Rattle.base.specs.Test.{if_then_else_}
 use Rattle.base.specs.declared.refusal.Refusal.{Refusal}
 use Rattle.base.specs.declared.refusal.Refusal.the-variants.{Map, Fence, Timetable, Frame, Distance, Clock, Line, Sheet, Word}
@@ -21,6 +22,9 @@ not-zero Clock = refl
 not-zero Line = refl
 not-zero Sheet = refl
 not-zero Word = refl
+
+pub no-number : (r : Refusal) → refusalNumber r ≡ 0 → ⊥
+no-number r e = true≢false (sym (eq-eqb _ _ e) ∙ not-zero r)
 
 -- a refusal keeps what was there
 pub kept : {A : Type 0} (n : ℕ) (r : Refusal) → n ≡ refusalNumber r → (new old : A) → old ≡ unlessRefused n new old

@@ -11,7 +11,9 @@ use Rattle.machine.specs.declared.state.Stamp.the-variants.{Never, At}
 use Rattle.machine.specs.declared.state.Time.{Time}
 use Rattle.machine.specs.declared.state.Visit.{Visit}
 use Rattle.machine.specs.declared.state.Visit.the-variants.{Free, Held}
+use Rattle.machine.specs.declared.state.Control.{Control}
 use Rattle.machine.specs.declared.state.Machine.{Machine}
+use Rattle.machine.specs.Lent.{joined}
 
 -- the layout of five addresses: code start and end, data start and end, service address
 unfoldable pub layoutOf : List ℕ → Layout
@@ -74,17 +76,19 @@ pub record Numbers : Type 0 where
 abbrev pub numbers : List ℕ → List ℕ → List ℕ → List ℕ → Numbers
 numbers registers saved control time = record { registers = registers; saved = saved; control = control; time = time }
 
+-- what the machine has beside its registers, of the five numbers and the time's three
+abbrev pub controlFrom : List ℕ → List ℕ → Control
+controlFrom fields time =
+    record {
+      previous = getD fields 0 0;
+      time = timeOf time;
+      visit = visitOf fields;
+      halted = not (eqb (getD fields 1 0) 0);
+    }
+
 -- the machine of a caller's numbers
 unfoldable pub machineOf : Numbers → Machine
-machineOf n =
-    record {
-      registers = n .registers;
-      previous = getD (n .control) 0 0;
-      time = timeOf (n .time);
-      visit = visitOf (n .control);
-      saved = n .saved;
-      halted = not (eqb (getD (n .control) 1 0) 0);
-    }
+machineOf n = joined (n .registers) (n .saved) (controlFrom (n .control) (n .time))
 
 -- the numbers of a machine
 unfoldable pub numbersOf : Machine → Numbers

@@ -2,9 +2,10 @@
 ghost use mathlib.Core.Path.{_≡_};
 ghost use Rattle.machine.specs.Calls.{startCall, startRefusal, stepRefusal, runRefusal};
 ghost use Rattle.embed.specs.Kept.{unlessRefused};
-ghost use Rattle.embed.specs.State.{numbers, numbersOf};
+ghost use Rattle.embed.specs.State.{controlFields, timeFields, numbers, numbersOf};
 ghost use Rattle.embed.specs.Calls.{stepOn, runOn, causeOf, stepKind, stepCause, runEnd, runSteps};
 use crate::state::control_fields;
+use crate::state::control_of;
 use crate::state::layout_of;
 use crate::state::machine_of;
 use crate::state::time_fields;
@@ -12,6 +13,7 @@ use machine::answer::Outcome;
 use machine::answer::RunAnswer;
 use machine::answer::StartAnswer;
 use machine::answer::StepAnswer;
+use machine::state::Control;
 use machine::state::Machine;
 
 // The number of a step's cause, 0 where it is no reset.
@@ -29,6 +31,17 @@ fn cause_of(outcome: Outcome) -> u8
     }
 }
 
+// Hands back in the caller's numbers what a machine has beside its registers.
+fn hand_control(rest: Control, control: &mut [u16; 5], time: &mut [u64; 3])
+    ensures { λ _. ⌜ now (control .exit) ≡ controlFields (rest .previous) (rest .halted) (rest .visit) ⌝ }
+    ensures { λ _. ⌜ now (time .exit) ≡ timeFields (rest .time) ⌝ }
+{
+    let visit = rest.visit;
+    let t = rest.time;
+    *control = control_fields(rest.previous, rest.halted, visit);
+    *time = time_fields(t);
+}
+
 // Hands a machine back in the caller's numbers.
 fn hand_back(
     m: Machine,
@@ -41,12 +54,9 @@ fn hand_back(
 {
     let current = m.registers;
     let held = m.saved;
-    let visit = m.visit;
-    let t = m.time;
     *registers = current;
     *saved = held;
-    *control = control_fields(m.previous, m.halted, visit);
-    *time = time_fields(t);
+    hand_control(m.control(), control, time);
 }
 
 // The start state of a memory.
@@ -92,14 +102,14 @@ pub extern "C" fn enclave_step(
     ensures kind { λ r. ⌜ now (kind .exit) ≡ unlessRefused r (stepKind (stepOn (numbers (now (registers .entry)) (now (saved .entry)) (now (control .entry)) (now (time .entry))) (now (mem .entry)) (now (layout .entry)) (now (stamps .entry)) .answer)) (now (kind .entry)) ⌝ }
     ensures cause { λ r. ⌜ now (cause .exit) ≡ unlessRefused r (stepCause (stepOn (numbers (now (registers .entry)) (now (saved .entry)) (now (control .entry)) (now (time .entry))) (now (mem .entry)) (now (layout .entry)) (now (stamps .entry)) .answer)) (now (cause .entry)) ⌝ }
 {
-    let m = machine_of(*registers, *saved, *control, *time);
-    let done = m.step(mem, layout_of(*layout), stamps);
-    let next = done.machine;
+    let rest = control_of(*control, *time);
+    let done = rest.step(registers, saved, mem, layout_of(*layout), stamps);
+    let next = done.control;
     let answer = done.answer;
     match answer {
         StepAnswer::Refused(refusal) => refusal.number(),
         StepAnswer::Made(outcome) => {
-            hand_back(next, registers, saved, control, time);
+            hand_control(next, control, time);
             *kind = outcome.letter();
             *cause = cause_of(outcome);
             0

@@ -1,8 +1,9 @@
 // The machine and the layout as numbers that a caller lends.
 ghost use mathlib.Core.Path.{_≡_};
-ghost use Rattle.embed.specs.State.{layoutOf, layoutFields, stampOf, stampNumber, timeOf, timeFields, byteOf, oddFlag, visitOf, controlFields, numbers, machineOf};
+ghost use Rattle.embed.specs.State.{layoutOf, layoutFields, stampOf, stampNumber, timeOf, timeFields, byteOf, oddFlag, visitOf, controlFields, controlFrom, numbers, machineOf};
 use layout::sections::Layout;
 use layout::sections::Span;
+use machine::state::Control;
 use machine::state::Machine;
 use machine::state::Stamp;
 use machine::state::Time;
@@ -123,6 +124,18 @@ pub fn control_fields(previous: u16, halted: bool, visit: Visit) -> [u16; 5]
     }
 }
 
+// What the machine has beside its registers.
+pub fn control_of(fields: [u16; 5], time: [u64; 3]) -> Control
+    ensures { λ r. ⌜ r ≡ controlFrom fields time ⌝ }
+{
+    Control {
+        previous: fields[0],
+        time: time_of(time),
+        visit: visit_of(fields),
+        halted: fields[1] != 0,
+    }
+}
+
 // The machine of a caller's numbers.
 pub fn machine_of(
     registers: [u16; 16],
@@ -132,12 +145,5 @@ pub fn machine_of(
 ) -> Machine
     ensures { λ r. ⌜ r ≡ machineOf (numbers registers saved control time) ⌝ }
 {
-    Machine {
-        registers: registers,
-        previous: control[0],
-        time: time_of(time),
-        visit: visit_of(control),
-        saved: saved,
-        halted: control[1] != 0,
-    }
+    control_of(control, time).machine(registers, saved)
 }

@@ -9,6 +9,7 @@ pub mod MemoryLaws
 pub mod StepLaws
 pub mod QuickLaws
 pub mod QuickRun
+pub mod LentLaws
 pub mod GieLaws
 pub mod TouchLaws
 pub mod Turns

@@ -58,6 +58,11 @@ unfoldable pub verdict : List Test → Verdict
 verdict [] = taken
 verdict (t ∷ tests) = if t .holds then verdict tests else refused (t .refusal)
 
+-- the tests 1 to 6, by what each finds
+abbrev pub tests : Bool → Bool → Bool → Bool → Bool → Bool → List Test
+tests whole fence rising frame near early =
+    test Map whole ∷ test Fence fence ∷ test Timetable rising ∷ test Frame frame ∷ test Distance near ∷ test Clock early ∷ []
+
 -- the tests of each call, in order
 abbrev pub startTests : List ℕ → List Test
 startTests mem = test Map (wholeMemory mem) ∷ []

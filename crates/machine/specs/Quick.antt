@@ -5,7 +5,7 @@ use mathlib.Core.Bool.{Bool, true, false, not}
 use mathlib.Core.List.{List, [], _∷_}
 use Prim.Native.Nat.{ℕ, _+_, _-_, _/_, _%_, _≤_}
 use lib.Dec.{ltb, eqb}
-use lib.ListN.{length, set}
+use lib.ListN.{length, getD, set}
 use Rattle.base.specs.Test.{if_then_else_, all}
 use Rattle.base.specs.Word.{even, sum16}
 use Rattle.isa.specs.declared.instruction.Operation.{Operation}
@@ -135,6 +135,38 @@ affected e rs = set (set (set rs 0 (e .to)) (e .number) (e .word)) 2 (e .status)
 -- the word that is put, if one is
 unfoldable pub putIf : Bool → List ℕ → ℕ → ℕ → List ℕ
 putIf puts mem a w = if puts then putWord mem a w else mem
+
+-- what quick steps change: the registers, the previous address, the clock and memory
+pub record Stand : Type 0 where
+  pub registers : List ℕ
+  pub previous : ℕ
+  pub clock : ℕ
+  pub memory : List ℕ
+
+-- these four
+abbrev pub stand : List ℕ → ℕ → ℕ → List ℕ → Stand
+stand registers previous clock memory = record { registers = registers; previous = previous; clock = clock; memory = memory }
+
+-- what the first word w at pc does
+abbrev pub quickAt : Layout → Stand → ℕ → Quick
+quickAt L s w =
+    quick (getD (s .registers) 0 0) (getD (s .registers) 2 0) L (s .memory)
+    (getD (s .registers) (w / 256 % 16) 0) (getD (s .registers) (w % 16) 0) w
+
+-- where an effect of the first word w leads: the word is put, registers are set
+abbrev pub paced : Effect → ℕ → Stand → Stand
+paced e w s =
+    stand (set (set (set (s .registers) 0 (e .to)) (e .number % 16) (e .word)) 2 (e .status)) (getD (s .registers) 0 0)
+    (s .clock + e .cycles)
+    (putIf (e .puts) (s .memory) (getD (s .registers) (w % 16) 0) (getD (s .registers) (w / 256 % 16) 0))
+
+module _ (L : Layout) (held : Bool) (until : ℕ) where
+  -- k quick steps, each begun 5 cycles or more before a clock value, lead from one stand to another
+  pub data Paced (from : Stand) : ℕ → Stand → Type 0 where
+    still : Paced from 0 from
+    quicker : (k n : ℕ) (s next : Stand) (w : ℕ) (e : Effect) → Paced from k s → s .clock + 5 ≤ until
+        → fetchable L held (s .previous) (getD (s .registers) 0 0) ≡ true → w ≡ wordAt (s .memory) (getD (s .registers) 0 0)
+        → quickAt L s w ≡ Does e → next ≡ paced e w s → n ≡ k + 1 → Paced from n next
 
 module _ (L : Layout) (stamps : List ℕ) where
   -- k steps that only ran lead from one world to another, each from a machine that goes on

@@ -1,6 +1,7 @@
 // What a step and a run answer.
 ghost use mathlib.Core.Path.{_≡_};
 ghost use Rattle.machine.specs.Outcome.{causeNumber, kindLetter, endLetter};
+use crate::state::Control;
 use crate::state::Machine;
 use base::refusal::Refusal;
 
@@ -48,6 +49,12 @@ pub enum StartAnswer {
 // The answer of step: what the step did, or the refusal; beside it the next machine.
 pub struct Stepped {
     pub machine: Machine,
+    pub answer: StepAnswer,
+}
+
+// The same where the registers are lent: beside the answer what the machine has beside them.
+pub struct LentStepped {
+    pub control: Control,
     pub answer: StepAnswer,
 }
 

@@ -2,6 +2,8 @@
 ghost use mathlib.Core.Path.{_≡_};
 ghost use Rattle.machine.specs.State.{world};
 ghost use Rattle.machine.specs.Calls.{startTests, stepTests, runTests, verdict, refusedBy, startCall, stepCall, runCall, startRefusal, stepRefusal, runRefusal, Untouched, started, stepped, ran};
+ghost use Rattle.machine.specs.Lent.{joined, lentStepped};
+use crate::answer::LentStepped;
 use crate::answer::Ran;
 use crate::answer::RunAnswer;
 use crate::answer::StartAnswer;
@@ -10,14 +12,16 @@ use crate::answer::StepAnswer;
 use crate::answer::Stepped;
 use crate::interrupt::fresh_machine;
 use crate::interrupt::reset_address;
+use crate::lent::one_step;
 use crate::registers::cleared_registers;
-use crate::run::one_step;
 use crate::run::run_steps;
+use crate::state::Control;
 use crate::state::Machine;
 use crate::time::start_time;
 use crate::verdict::Verdict;
 use crate::verdict::is_whole;
-use crate::verdict::judge_call;
+use crate::verdict::judge_run;
+use crate::verdict::judge_step;
 use base::refusal::Refusal;
 use layout::sections::Layout;
 
@@ -46,20 +50,15 @@ impl Machine {
         ensures number { λ r. ⌜ stepRefusal (r .answer) ≡ refusedBy (verdict (stepTests layout (now (stamps .entry)) (world self (now (mem .entry))))) ⌝ }
         ensures refused { λ r. ⌜ Untouched (stepRefusal (r .answer)) (world self (now (mem .entry))) (world (r .machine) (now (mem .exit))) ⌝ }
     {
-        match judge_call(self, mem, layout, stamps, 0) {
-            Verdict::Refused(refusal) => Stepped {
-                machine: self,
-                answer: StepAnswer::Refused(refusal),
-            },
-            Verdict::Taken => {
-                let moved = one_step(self, mem, layout, stamps);
-                let next = moved.machine;
-                let outcome = moved.outcome;
-                Stepped {
-                    machine: next,
-                    answer: StepAnswer::Made(outcome),
-                }
-            }
+        let mut registers = self.registers;
+        let mut saved = self.saved;
+        let done = self.control()
+            .step(&mut registers, &mut saved, mem, layout, stamps);
+        let control = done.control;
+        let answer = done.answer;
+        Stepped {
+            machine: control.machine(registers, saved),
+            answer: answer,
         }
     }
 
@@ -70,12 +69,45 @@ impl Machine {
         ensures number { λ r. ⌜ runRefusal (r .answer) ≡ refusedBy (verdict (runTests layout (now (stamps .entry)) budget (world self (now (mem .entry))))) ⌝ }
         ensures refused { λ r. ⌜ Untouched (runRefusal (r .answer)) (world self (now (mem .entry))) (world (r .machine) (now (mem .exit))) ⌝ }
     {
-        match judge_call(self, mem, layout, stamps, budget) {
+        match judge_run(self, mem, layout, stamps, budget) {
             Verdict::Refused(refusal) => Ran {
                 machine: self,
                 answer: RunAnswer::Refused(refusal),
             },
             Verdict::Taken => run_steps(self, mem, layout, stamps, budget),
+        }
+    }
+}
+
+impl Control {
+    // One step of a machine whose registers are lent: they are changed where they lie.
+    pub fn step(
+        self,
+        registers: &mut [u16; 16],
+        saved: &mut [u16; 16],
+        mem: &mut [u8],
+        layout: Layout,
+        stamps: &[u64],
+    ) -> LentStepped
+        ensures answer { λ r. ⌜ lentStepped (now (registers .exit)) (now (saved .exit)) r ≡ stepped (stepCall layout (now (stamps .entry)) (world (joined (now (registers .entry)) (now (saved .entry)) self) (now (mem .entry)))) ⌝ }
+        ensures memory { λ _. ⌜ now (mem .exit) ≡ stepCall layout (now (stamps .entry)) (world (joined (now (registers .entry)) (now (saved .entry)) self) (now (mem .entry))) .memory ⌝ }
+        ensures number { λ r. ⌜ stepRefusal (r .answer) ≡ refusedBy (verdict (stepTests layout (now (stamps .entry)) (world (joined (now (registers .entry)) (now (saved .entry)) self) (now (mem .entry))))) ⌝ }
+        ensures refused { λ r. ⌜ Untouched (stepRefusal (r .answer)) (world (joined (now (registers .entry)) (now (saved .entry)) self) (now (mem .entry))) (world (joined (now (registers .exit)) (now (saved .exit)) (r .control)) (now (mem .exit))) ⌝ }
+    {
+        match judge_step(self, registers, saved, mem, layout, stamps) {
+            Verdict::Refused(refusal) => LentStepped {
+                control: self,
+                answer: StepAnswer::Refused(refusal),
+            },
+            Verdict::Taken => {
+                let moved = one_step(self, registers, saved, mem, layout, stamps);
+                let control = moved.control;
+                let outcome = moved.outcome;
+                LentStepped {
+                    control: control,
+                    answer: StepAnswer::Made(outcome),
+                }
+            }
         }
     }
 }

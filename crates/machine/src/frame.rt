@@ -1,6 +1,8 @@
 // The frame that every state the machine can be in keeps: what a caller hands in is tested for it.
 ghost use mathlib.Core.Path.{_≡_};
 ghost use Rattle.machine.specs.State.{framedRegisters, framedSlot, framedAlarm, framedVisit, framed};
+ghost use Rattle.machine.specs.Lent.{joined};
+use crate::state::Control;
 use crate::state::Machine;
 use crate::state::Stamp;
 use crate::state::Visit;
@@ -9,8 +11,8 @@ use base::word::is_even;
 use layout::sections::Layout;
 
 // pc and sp are even, r3 is zero.
-fn registers_fit(registers: [u16; 16]) -> bool
-    ensures { λ r. ⌜ r ≡ framedRegisters registers ⌝ }
+fn registers_fit(registers: &[u16; 16]) -> bool
+    ensures { λ r. ⌜ r ≡ framedRegisters (now (registers .entry)) ⌝ }
 {
     is_even(registers[0]) && (is_even(registers[1]) && registers[3] == 0)
 }
@@ -36,8 +38,8 @@ fn alarm_fits(clock: u64, alarm: Stamp) -> bool
 }
 
 // A held visit's age is at most 6, its registers fit with GIE set, its previous address is inside and even.
-fn visit_fits(layout: Layout, saved: [u16; 16], visit: Visit) -> bool
-    ensures { λ r. ⌜ r ≡ framedVisit layout saved visit ⌝ }
+fn visit_fits(layout: Layout, saved: &[u16; 16], visit: Visit) -> bool
+    ensures { λ r. ⌜ r ≡ framedVisit layout (now (saved .entry)) visit ⌝ }
 {
     match visit {
         Visit::Free => true,
@@ -49,13 +51,11 @@ fn visit_fits(layout: Layout, saved: [u16; 16], visit: Visit) -> bool
     }
 }
 
-impl Machine {
-    // The state keeps the frame.
-    pub fn is_framed(self, layout: Layout) -> bool
-        ensures { λ r. ⌜ r ≡ framed layout self ⌝ }
+impl Control {
+    // The state keeps the frame, with its registers and its saved registers lent.
+    pub fn is_framed(self, registers: &[u16; 16], saved: &[u16; 16], layout: Layout) -> bool
+        ensures { λ r. ⌜ r ≡ framed layout (joined (now (registers .entry)) (now (saved .entry)) self) ⌝ }
     {
-        let registers = self.registers;
-        let saved = self.saved;
         let visit = self.visit;
         let time = self.time;
         let slot = time.slot;
@@ -64,5 +64,16 @@ impl Machine {
             && (is_even(self.previous)
                 && (slot_fits(time.clock, slot)
                     && (alarm_fits(time.clock, alarm) && visit_fits(layout, saved, visit))))
+    }
+}
+
+impl Machine {
+    // The state keeps the frame.
+    pub fn is_framed(self, layout: Layout) -> bool
+        ensures { λ r. ⌜ r ≡ framed layout self ⌝ }
+    {
+        let registers = self.registers;
+        let saved = self.saved;
+        self.control().is_framed(&registers, &saved, layout)
     }
 }

@@ -6,6 +6,7 @@ pub mod frame;
 mod interrupt;
 mod judge;
 pub mod laws;
+mod lent;
 mod memory;
 mod quick;
 mod registers;

@@ -1,23 +1,16 @@
 // The quick way of a step: a common instruction of which no interrupt can come. Registers are changed where they lie.
 ghost use mathlib.Core.Path.{_≡_};
-ghost use Prim.Native.Nat.{_/_, _≤_};
+ghost use Prim.Native.Nat.{_/_, _≤_, _^_};
 ghost use lib.Dec.{eqb};
 ghost use lib.ListN.{length};
 ghost use Rattle.base.specs.Test.{if_then_else_};
 ghost use Rattle.alu.specs.Arithmetic.{computed};
 ghost use Rattle.machine.specs.declared.quick.Quick.the-variants.{Rare as RARE};
-ghost use Rattle.machine.specs.State.{world};
-ghost use Rattle.machine.specs.Place.{Ready};
-ghost use Rattle.machine.specs.Quick.{fetchable, leading, setting, computing, grouped, branching, registering, loading, constant, storing, moving, quick, putIf, Leads};
+ghost use Rattle.machine.specs.Run.{lastClock};
+ghost use Rattle.machine.specs.Quick.{fetchable, leading, setting, computing, grouped, branching, registering, loading, constant, storing, moving, quick, putIf, stand, Paced};
 use crate::memory::put_word;
 use crate::memory::word_at;
-use crate::state::Machine;
-use crate::step::is_held;
-use crate::step::saved_for;
-use crate::time::advance;
-use crate::time::still_until;
 use alu::arithmetic::compute;
-use alu::status::gie_is_set;
 use alu::status::set_flags;
 use alu::status::zero_is_set;
 use base::test::both;
@@ -43,9 +36,10 @@ pub enum Quick {
     Does(Effect),
 }
 
-// How far a machine went by quick steps.
+// How far quick steps went: the previous address and the clock after them, and how many they were.
 pub struct Went {
-    pub machine: Machine,
+    pub previous: u16,
+    pub clock: u64,
     pub steps: u64,
 }
 
@@ -249,57 +243,51 @@ fn put_if(puts: bool, mem: &mut [u8], a: u16, w: u16)
     }
 }
 
-// Quick steps, as many as there are and as are left.
+// Quick steps, as many as there are and as are left, none of which begins past the clock value `until` less 5.
 pub fn quick_steps(
-    m: Machine,
+    registers: &mut [u16; 16],
+    previous: u16,
+    clock: u64,
+    held: bool,
     mem: &mut [u8],
     layout: Layout,
-    stamps: &[u64],
-    place: usize,
+    until: u64,
     left: u64,
 ) -> Went
     requires { ⌜ length (now mem) ≡ 65536 ⌝ }
-    requires { ⌜ Ready (now stamps) (m .time .clock) place 300 ⌝ }
-    ensures { λ r. ⌜ Leads layout (now (stamps .entry)) (world m (now (mem .entry))) (r .steps) (world (r .machine) (now (mem .exit))) ⌝ }
+    requires { ⌜ (clock ≤ 2 ^ 63) × (until ≤ lastClock) ⌝ }
+    ensures { λ r. ⌜ Paced layout held until (stand (now (registers .entry)) previous clock (now (mem .entry))) (r .steps) (stand (now (registers .exit)) (r .previous) (r .clock) (now (mem .exit))) ⌝ }
     ensures { λ r. ⌜ r .steps ≤ left ⌝ }
 {
-    let time = m.time;
-    let visit = m.visit;
-    let saved = m.saved;
-    let held = is_held(visit);
-    let kept = saved_for(visit, saved);
-    let silent = !gie_is_set(m.registers[2]);
-    let next = advance(stamps, place, time.clock);
-    let until = still_until(m.halted, silent, time, stamps, next);
-    let mut current = m;
+    let mut last = previous;
+    let mut time = clock;
     let mut steps: u64 = 0;
     while steps < left {
-        let clock = current.time.clock;
-        if until < clock + 5 {
+        if until < time + 5 {
             break;
         }
-        let pc = current.registers[0];
-        if !may_fetch(layout, held, current.previous, pc) {
+        let pc = registers[0];
+        if !may_fetch(layout, held, last, pc) {
             break;
         }
         let w = word_at(mem, pc);
-        let x = current.registers[(w / 256 % 16) as usize];
-        let y = current.registers[(w % 16) as usize];
-        let Quick::Does(e) = quick_effect(pc, current.registers[2], layout, mem, x, y, w) else {
+        let x = registers[(w / 256 % 16) as usize];
+        let y = registers[(w % 16) as usize];
+        let Quick::Does(e) = quick_effect(pc, registers[2], layout, mem, x, y, w) else {
             break;
         };
         let n = (e.number % 16) as usize;
         put_if(e.puts, mem, y, x);
-        current.registers[0] = e.to;
-        current.registers[n] = e.word;
-        current.registers[2] = e.status;
-        current.previous = pc;
-        current.time.clock = clock + e.cycles;
-        current.saved = kept;
+        registers[0] = e.to;
+        registers[n] = e.word;
+        registers[2] = e.status;
+        last = pc;
+        time += e.cycles;
         steps += 1;
     }
     Went {
-        machine: current,
+        previous: last,
+        clock: time,
         steps: steps,
     }
 }

@@ -4,58 +4,56 @@ ghost use mathlib.Core.Bool.{true, false};
 ghost use Prim.Native.Nat.{_≤_};
 ghost use lib.ListN.{length};
 ghost use Rattle.machine.specs.State.{world};
-ghost use Rattle.machine.specs.Interrupt.{moved};
-ghost use Rattle.machine.specs.Step.{step};
 ghost use Rattle.machine.specs.Run.{lastClock, run};
 ghost use Rattle.machine.specs.Place.{Ready};
 ghost use Rattle.machine.specs.Quick.{Turn};
 ghost use Rattle.machine.specs.Calls.{timetable, stopped};
 use crate::answer::End;
-use crate::answer::Outcome;
 use crate::answer::Ran;
 use crate::answer::RunAnswer;
-use crate::interrupt::Moved;
-use crate::quick::Went;
-use crate::quick::quick_steps;
+use crate::lent::clear_unheld;
+use crate::lent::quick_from;
 use crate::state::Machine;
 use crate::step::take_step;
 use crate::time::advance;
 use crate::time::first_place;
 use layout::sections::Layout;
 
-// One step by itself, quick if it can be.
-pub fn one_step(m: Machine, mem: &mut [u8], layout: Layout, stamps: &[u64]) -> Moved
-    requires { ⌜ length (now mem) ≡ 65536 ⌝ }
-    requires { ⌜ (timetable (now stamps) ≡ true) × (m .time .clock ≤ lastClock) ⌝ }
-    ensures { λ r. ⌜ r ≡ moved (step layout (now (stamps .entry)) m (now (mem .entry))) ⌝ }
-    ensures { λ _. ⌜ now (mem .exit) ≡ step layout (now (stamps .entry)) m (now (mem .entry)) .memory ⌝ }
-{
-    let place = first_place(stamps, m.time.clock);
-    let went = quick_steps(m, mem, layout, stamps, place, 1);
-    if went.steps > 0 {
-        let next = went.machine;
-        return Moved {
-            machine: next,
-            outcome: Outcome::Ran,
-        };
-    }
-    take_step(m, mem, layout, stamps, place)
+// How far a turn of a run went.
+pub struct Turned {
+    pub machine: Machine,
+    pub steps: u64,
 }
 
 // A turn of a run: quick steps if there are any, else one step.
-fn turn(m: Machine, mem: &mut [u8], layout: Layout, stamps: &[u64], place: usize, left: u64) -> Went
+fn turn(
+    m: Machine,
+    mem: &mut [u8],
+    layout: Layout,
+    stamps: &[u64],
+    place: usize,
+    left: u64,
+) -> Turned
     requires { ⌜ length (now mem) ≡ 65536 ⌝ }
     requires { ⌜ Ready (now stamps) (m .time .clock) place 300 ⌝ }
     requires { ⌜ (m .halted ≡ false) × (m .time .clock ≤ lastClock) × (1 ≤ left) ⌝ }
     ensures { λ r. ⌜ Turn layout (now (stamps .entry)) left (world m (now (mem .entry))) (r .steps) (world (r .machine) (now (mem .exit))) ⌝ }
 {
-    let went = quick_steps(m, mem, layout, stamps, place, left);
+    let mut registers = m.registers;
+    let mut saved = m.saved;
+    let visit = m.visit;
+    let control = m.control();
+    let went = quick_from(control, &mut registers, mem, layout, stamps, place, left);
     if went.steps > 0 {
-        return went;
+        clear_unheld(visit, &mut saved);
+        return Turned {
+            machine: control.after(went).machine(registers, saved),
+            steps: went.steps,
+        };
     }
     let moved = take_step(m, mem, layout, stamps, place);
     let next = moved.machine;
-    Went {
+    Turned {
         machine: next,
         steps: 1,
     }
@@ -81,10 +79,10 @@ pub fn run_steps(m: Machine, mem: &mut [u8], layout: Layout, stamps: &[u64], bud
         if steps == budget {
             break End::Spent;
         }
-        let went = turn(current, mem, layout, stamps, place, budget - steps);
-        current = went.machine;
+        let turned = turn(current, mem, layout, stamps, place, budget - steps);
+        current = turned.machine;
         place = advance(stamps, place, current.time.clock);
-        steps += went.steps;
+        steps += turned.steps;
     };
     Ran {
         machine: current,

@@ -3,7 +3,9 @@ ghost use mathlib.Core.Path.{_≡_};
 ghost use lib.Dec.{leb};
 ghost use Rattle.machine.specs.State.{world};
 ghost use Rattle.machine.specs.Run.{lastClock};
-ghost use Rattle.machine.specs.Calls.{wholeMemory, verdict, runTests};
+ghost use Rattle.machine.specs.Calls.{wholeMemory, verdict, tests, runTests};
+ghost use Rattle.machine.specs.Lent.{joined};
+use crate::state::Control;
 use crate::state::Machine;
 use crate::timetable::is_timetable;
 use base::refusal::Refusal;
@@ -36,28 +38,69 @@ fn is_near(budget: u64) -> bool
     budget <= 1000000
 }
 
-// The first test of run that fails. A step takes no budget: it is judged as a run of budget 0.
-pub fn judge_call(m: Machine, mem: &[u8], layout: Layout, stamps: &[u64], budget: u64) -> Verdict
-    ensures { λ r. ⌜ r ≡ verdict (runTests layout (now (stamps .entry)) budget (world m (now (mem .entry)))) ⌝ }
+// The first of the tests 1 to 6 that fails.
+fn first_refusal(
+    whole: bool,
+    fence: bool,
+    rising: bool,
+    frame: bool,
+    near: bool,
+    early: bool,
+) -> Verdict
+    ensures { λ r. ⌜ r ≡ verdict (tests whole fence rising frame near early) ⌝ }
 {
-    let time = m.time;
-    if !is_whole(mem) {
+    if !whole {
         return Verdict::Refused(Refusal::Map);
     }
-    if !layout.accepted() {
+    if !fence {
         return Verdict::Refused(Refusal::Fence);
     }
-    if !is_timetable(stamps) {
+    if !rising {
         return Verdict::Refused(Refusal::Timetable);
     }
-    if !m.is_framed(layout) {
+    if !frame {
         return Verdict::Refused(Refusal::Frame);
     }
-    if !is_near(budget) {
+    if !near {
         return Verdict::Refused(Refusal::Distance);
     }
-    if !is_early(time.clock) {
+    if !early {
         return Verdict::Refused(Refusal::Clock);
     }
     Verdict::Taken
+}
+
+// The first test of a run that fails.
+pub fn judge_run(m: Machine, mem: &[u8], layout: Layout, stamps: &[u64], budget: u64) -> Verdict
+    ensures { λ r. ⌜ r ≡ verdict (runTests layout (now (stamps .entry)) budget (world m (now (mem .entry)))) ⌝ }
+{
+    first_refusal(
+        is_whole(mem),
+        layout.accepted(),
+        is_timetable(stamps),
+        m.is_framed(layout),
+        is_near(budget),
+        is_early(m.time.clock),
+    )
+}
+
+// The first test of a step that fails. A step takes no budget: it is judged as a run of budget 0.
+pub fn judge_step(
+    control: Control,
+    registers: &[u16; 16],
+    saved: &[u16; 16],
+    mem: &[u8],
+    layout: Layout,
+    stamps: &[u64],
+) -> Verdict
+    ensures { λ r. ⌜ r ≡ verdict (runTests layout (now (stamps .entry)) 0 (world (joined (now (registers .entry)) (now (saved .entry)) control) (now (mem .entry)))) ⌝ }
+{
+    first_refusal(
+        is_whole(mem),
+        layout.accepted(),
+        is_timetable(stamps),
+        control.is_framed(registers, saved, layout),
+        is_near(0),
+        is_early(control.time.clock),
+    )
 }

@@ -1,24 +1,17 @@
-use Rattle.embed.specs.State.{machineOf}
+use mathlib.Core.Path.{_∙_}
+use Rattle.embed.proofs.CallLaws.{lent-machine}
 use borrow.Author.Needs.{needs}
 use Rattle.embed.proofs.state.machine_of.Statement.{statement}
 use Rattle.embed.proofs.state.machine_of.Tie as tie
 
-array-read-t8 : tie.Need-array-read-t8
-array-read-t8 c = search needs
+control-of-requires : tie.Need-control-of-requires
+control-of-requires c κs = search needs
 
-time-of-requires : tie.Need-time-of-requires
-time-of-requires c κs = search needs
-
-visit-of-requires : tie.Need-visit-of-requires
-visit-of-requires c κs = search needs
-
-array-read-t14 : tie.Need-array-read-t14
-array-read-t14 c = search needs
+machine-requires : tie.Need-machine-requires
+machine-requires c κs = search needs
 
 returns : tie.Need-returns
-unfolding machineOf
-returns c = simp (c .visit-of .ensures, c .before .time-of .ensures)
+returns c = c .machine .ensures ∙ lent-machine _ _ _ _ _ (c .before .control-of .ensures)
 
 pub machine-of-spec : {M : Type 1} → statement M
-machine-of-spec =
-    tie.close (tie.spec array-read-t8 time-of-requires visit-of-requires array-read-t14 returns)
+machine-of-spec = tie.close (tie.spec control-of-requires machine-requires returns)

@@ -1,8 +1,8 @@
 use mathlib.Core.Path.{refl}
 use borrow.Author.Tests.{le-leb, lt-leb}
-use borrow.Author.Needs.{needs}
 use Rattle.base.proofs.Tests.{and-stop, and-then, and-last}
 use Rattle.machine.specs.Registers.{register}
+use borrow.Author.Needs.{needs}
 use Rattle.machine.proofs.frame.visit_fits.Statement.{statement}
 use Rattle.machine.proofs.frame.visit_fits.Tie as tie
 
@@ -15,8 +15,8 @@ enum-known-visit c = search needs
 registers-fit-requires : tie.Need-registers-fit-requires
 registers-fit-requires c κs = search needs
 
-array-read-gie-is-set : tie.Need-array-read-gie-is-set
-array-read-gie-is-set c = search needs
+element-copy-out-gie-is-set : tie.Need-element-copy-out-gie-is-set
+element-copy-out-gie-is-set c = search needs
 
 gie-is-set-requires : tie.Need-gie-is-set-requires
 gie-is-set-requires c κs = search needs
@@ -33,10 +33,10 @@ returns c = search needs
 returns-2 : tie.Need-returns-2
 unfolding register
 returns-2 c =
-    rw (c .before .before .before .before .before .before .before .before .before .visit .given .1)
-    (and-then _ refl (le-leb _ _ (c .before .before .before .before .before .before .before .if1 .taken))
-    (and-then _ (c .before .before .before .before .before .before .registers-fit .ensures)
-    (c .before .before .before .before .before .if2 .taken)
+    rw (c .before .before .before .before .before .before .before .before .before .before .visit .given .1)
+    (and-then _ refl (le-leb _ _ (c .before .before .before .before .before .before .before .before .if1 .taken))
+    (and-then _ (c .before .before .before .before .before .before .before .registers-fit .ensures)
+    (c .before .before .before .before .before .before .if2 .taken)
     (and-then _ (c .before .before .before .before .gie-is-set .ensures) (c .before .before .before .if3 .taken)
     (and-then _ (c .before .before .inside .ensures) (c .before .if4 .taken)
     (and-last (c .is-even .ensures))))))
@@ -44,19 +44,19 @@ returns-2 c =
 returns-3 : tie.Need-returns-3
 unfolding register
 returns-3 c =
-    rw (c .before .before .before .before .before .before .before .before .visit .given .1)
-    (and-then _ refl (le-leb _ _ (c .before .before .before .before .before .before .if1 .taken))
-    (and-then _ (c .before .before .before .before .before .registers-fit .ensures)
-    (c .before .before .before .before .if2 .taken)
+    rw (c .before .before .before .before .before .before .before .before .before .visit .given .1)
+    (and-then _ refl (le-leb _ _ (c .before .before .before .before .before .before .before .if1 .taken))
+    (and-then _ (c .before .before .before .before .before .before .registers-fit .ensures)
+    (c .before .before .before .before .before .if2 .taken)
     (and-then _ (c .before .before .before .gie-is-set .ensures) (c .before .before .if3 .taken)
     (and-stop _ (c .before .inside .ensures) (c .if4 .left)))))
 
 returns-4 : tie.Need-returns-4
 unfolding register
 returns-4 c =
-    rw (c .before .before .before .before .before .before .visit .given .1)
-    (and-then _ refl (le-leb _ _ (c .before .before .before .before .if1 .taken))
-    (and-then _ (c .before .before .before .registers-fit .ensures) (c .before .before .if2 .taken)
+    rw (c .before .before .before .before .before .before .before .visit .given .1)
+    (and-then _ refl (le-leb _ _ (c .before .before .before .before .before .if1 .taken))
+    (and-then _ (c .before .before .before .before .registers-fit .ensures) (c .before .before .before .if2 .taken)
     (and-stop _ (c .before .gie-is-set .ensures) (c .if3 .left))))
 
 returns-5 : tie.Need-returns-5
@@ -77,7 +77,7 @@ visit-fits-spec =
     enum-told
     enum-known-visit
     registers-fit-requires
-    array-read-gie-is-set
+    element-copy-out-gie-is-set
     gie-is-set-requires
     inside-requires
     is-even-requires

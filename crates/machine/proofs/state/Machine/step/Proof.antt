@@ -1,51 +1,24 @@
-use mathlib.Core.Path.{sym, _∙_}
-use denote.Ref.{now}
-use Rattle.machine.specs.State.{world}
-use Rattle.machine.proofs.CallLaws.{taken-fit, step-refused, step-taken}
+use Rattle.machine.proofs.LentLaws.{step-joined}
 use borrow.Author.Needs.{needs}
 use Rattle.machine.proofs.state.Machine.step.Statement.{statement}
 use Rattle.machine.proofs.state.Machine.step.Tie as tie
 
-judge-call-requires : tie.Need-judge-call-requires
-judge-call-requires c κs = search needs
+control-requires : tie.Need-control-requires
+control-requires c κs = search needs
 
-enum-known-refusal : tie.Need-enum-known-refusal
-enum-known-refusal c = search needs
+step-requires : tie.Need-step-requires
+step-requires c κs = search needs
 
-enum-told : tie.Need-enum-told
-enum-told c = search needs
-
-one-step-requires : tie.Need-one-step-requires
-one-step-requires c κs =
-    let a = c .before .before .before .before .before .before .before .args in
-    let f = taken-fit (a .layout) (now (a .stamps)) 0 (world (a .self) (now (a .mem))) (sym (c .before .before .before .judge-call .ensures) ∙ c .before .enum-told .given .1) in
-    (f .whole, (f .timed, f .early))
+machine-requires : tie.Need-machine-requires
+machine-requires c κs = search needs
 
 same-length : tie.Need-same-length
 same-length c = search needs
 
 returns : tie.Need-returns
 returns c =
-    let a = c .before .before .before .before .before .before .before .args in
-    step-refused (a .layout) (now (a .stamps)) (world (a .self) (now (a .mem))) _ (sym (c .before .before .before .judge-call .ensures) ∙ c .before .refusal .given .1)
-
-same-length-2 : tie.Need-same-length-2
-same-length-2 c = search needs
-
-returns-2 : tie.Need-returns-2
-returns-2 c =
-    let a = c .before .before .before .before .before .before .before .before .before .before .before .args in
-    step-taken (a .layout) (now (a .stamps)) (world (a .self) (now (a .mem))) (sym (c .before .before .before .before .before .before .before .judge-call .ensures) ∙ c .before .before .before .before .before .enum-told .given .1) _ _ (c .before .before .before .one-step .ensures)
+    step-joined _ _ _ _ _ _ _ _ _ _ (c .before .before .before .before .before .before .before .before .control .ensures) (c .machine .ensures) (c .before .before .before .before .step .ensures)
 
 pub step-spec : {M : Type 1} → statement M
 step-spec =
-    tie.close
-    (tie.spec
-    judge-call-requires
-    enum-known-refusal
-    enum-told
-    one-step-requires
-    same-length
-    returns
-    same-length-2
-    returns-2)
+    tie.close (tie.spec control-requires step-requires machine-requires same-length returns)

@@ -1,0 +1,97 @@
+-- A machine whose registers are lent: the saved copy by what is held, and what is handed back, apart and joined. Assumes nothing.
+use mathlib.Core.Path.{_≡_, refl, sym, _∙_, ap, subst}
+use mathlib.Core.Bool.{true, false, true≢false}
+use mathlib.Core.List.{List}
+use Prim.Native.Nat.{ℕ, _≤_}
+use native.Mathlib.Omega.{arith}
+use borrow.Author.Tests.{ne-eqb}
+use Rattle.base.proofs.Tests.{if-false}
+use Rattle.machine.specs.declared.state.Visit.{Visit}
+use Rattle.layout.specs.declared.sections.Layout.{Layout}
+use Rattle.machine.specs.declared.state.Visit.the-variants.{Free, Held}
+use Rattle.machine.specs.declared.state.Control.{Control}
+use Rattle.machine.specs.declared.state.Machine.{Machine}
+use Rattle.machine.specs.declared.answer.Outcome.the-variants.{Ran}
+use Rattle.machine.specs.declared.answer.Stepped.{Stepped}
+use Rattle.machine.specs.declared.answer.LentStepped.{LentStepped}
+use Rattle.machine.specs.declared.interrupt.Moved.{Moved}
+use Rattle.machine.specs.declared.quick.Went.{Went}
+use Rattle.machine.specs.Registers.{zeros}
+use Rattle.machine.specs.State.{World, world, isHeld}
+use Rattle.machine.specs.Interrupt.{moved}
+use Rattle.machine.specs.Step.{savedFor, step}
+use Rattle.machine.specs.Place.{Ready}
+use Rattle.machine.specs.Quick.{Leads}
+use Rattle.machine.specs.Calls.{verdict, stepTests, stepCall, stepRefusal, refusedBy, Untouched, stepped}
+use Rattle.machine.specs.Lent.{joined, controlOf, lentStepped, lentMoved, wentOn, savedAfter, QuickLeads}
+use Rattle.machine.proofs.Handed.{Handed, handed}
+use Rattle.machine.proofs.QuickRun.{leads-one}
+
+pub saved-held : (v : Visit) (saved : List ℕ) → isHeld v ≡ true → savedFor v saved ≡ saved
+saved-held Free saved e = absurd (true≢false (sym e))
+saved-held (Held previous age) saved e = refl
+
+pub saved-free : (v : Visit) (saved : List ℕ) → isHeld v ≡ false → savedFor v saved ≡ zeros
+saved-free Free saved e = refl
+saved-free (Held previous age) saved e = absurd (true≢false e)
+
+-- after some quick steps the saved copy is the one that a step hands back
+pub quick-cleared : (L : Layout) (stamps : List ℕ) (c : Control) (rs mem : List ℕ) (went : Went) (rs' bytes : List ℕ)
+    → QuickLeads L stamps c rs mem went rs' bytes → 1 ≤ went .steps → (saved kept : List ℕ) → kept ≡ savedFor (c .visit) saved
+    → Leads L stamps (world (joined rs saved c) mem) (went .steps) (world (joined rs' kept (wentOn c went)) bytes)
+unfolding savedAfter
+quick-cleared L stamps c rs mem went rs' bytes q i saved kept e =
+    subst (λ (z : List ℕ). Leads L stamps (world (joined rs saved c) mem) (went .steps) (world (joined rs' z (wentOn c went)) bytes))
+    (if-false _ _ _ (ne-eqb (went .steps) 0 (λ z. absurd (omega arith))) ∙ sym e) (q saved)
+
+-- cycles can pass from the same clock value
+pub ready-at : {stamps : List ℕ} {a b place n : ℕ} → a ≡ b → Ready stamps b place n → Ready stamps a place n
+ready-at {stamps} {place = place} {n = n} e r = subst (λ (z : ℕ). Ready stamps z place n) (sym e) r
+
+-- what one quick step hands back
+pub quick-handed : (L : Layout) (stamps rs saved mem rs' kept bytes : List ℕ) (c d : Control) (went : Went)
+    → QuickLeads L stamps c rs mem went rs' bytes → 1 ≤ went .steps → went .steps ≤ 1 → kept ≡ savedFor (c .visit) saved → d ≡ wentOn c went
+    → Handed (lentMoved rs' kept (record { control = d; outcome = Ran })) bytes (step L stamps (joined rs saved c) mem)
+quick-handed L stamps rs saved mem rs' kept bytes c d went q i j k e =
+    handed (leads-one L stamps _ _ _ (quick-cleared L stamps c rs mem went rs' bytes q i saved kept k) i j)
+    (ap (λ (z : Control). lentMoved rs' kept (record { control = z; outcome = Ran })) e, refl)
+
+-- what a full step hands back, apart and joined again
+pub full-handed : (L : Layout) (stamps rs saved mem bytes : List ℕ) (c d : Control) (m : Machine) (done : Moved) → m ≡ joined rs saved c
+    → Handed done bytes (step L stamps m mem) → d ≡ controlOf (done .machine)
+    → Handed (lentMoved (done .machine .registers) (done .machine .saved) (record { control = d; outcome = done .outcome })) bytes
+    (step L stamps (joined rs saved c) mem)
+full-handed L stamps rs saved mem bytes c d m done e h k = (
+  ap (λ (z : Control). lentMoved (done .machine .registers) (done .machine .saved) (record { control = z; outcome = done .outcome })) k
+      ∙ h .0 ∙ ap (λ (z : Machine). moved (step L stamps z mem)) e,
+  h .1 ∙ ap (λ (z : Machine). step L stamps z mem .memory) e,
+)
+
+-- quick steps of a machine apart are steps of it joined
+pub leads-joined : (L : Layout) (stamps mem rs kept bytes : List ℕ) (m next : Machine) (c d : Control) (went : Went) → c ≡ controlOf m
+    → QuickLeads L stamps c (m .registers) mem went rs bytes → 1 ≤ went .steps → kept ≡ savedFor (m .visit) (m .saved) → d ≡ wentOn c went
+    → next ≡ joined rs kept d → Leads L stamps (world m mem) (went .steps) (world next bytes)
+leads-joined L stamps mem rs kept bytes m next c d went e q i k f g =
+    subst (λ (z : Machine). Leads L stamps (world m mem) (went .steps) (world z bytes)) (ap (joined rs kept) (sym f) ∙ sym g)
+    (subst
+    (λ (z : Control). Leads L stamps (world (joined (m .registers) (m .saved) z) mem) (went .steps) (world (joined rs kept (wentOn c went)) bytes))
+    e
+    (quick-cleared L stamps c (m .registers) mem went rs bytes q i (m .saved) kept
+    (k ∙ ap (λ (z : Control). savedFor (z .visit) (m .saved)) (sym e))))
+
+-- what a step call promises of what it hands back
+abbrev Promised : Layout → List ℕ → World → Stepped → List ℕ → Type 0
+Promised L stamps w r bytes =
+    (r ≡ stepped (stepCall L stamps w))
+    × ((bytes ≡ stepCall L stamps w .memory)
+    × ((stepRefusal (r .answer) ≡ refusedBy (verdict (stepTests L stamps w)))
+    × Untouched (stepRefusal (r .answer)) w (world (r .machine) bytes)))
+
+-- promised of a machine apart, it is promised of it joined
+pub step-joined : (L : Layout) (stamps mem bytes rs saved : List ℕ) (m next : Machine) (c : Control) (done : LentStepped)
+    → c ≡ controlOf m → next ≡ joined rs saved (done .control)
+    → Promised L stamps (world (joined (m .registers) (m .saved) c) mem) (lentStepped rs saved done) bytes
+    → Promised L stamps (world m mem) (record { machine = next; answer = done .answer }) bytes
+step-joined L stamps mem bytes rs saved m next c done e f p =
+    subst (λ (z : Machine). Promised L stamps (world m mem) (record { machine = z; answer = done .answer }) bytes) (sym f)
+    (subst (λ (z : Control). Promised L stamps (world (joined (m .registers) (m .saved) z) mem) (lentStepped rs saved done) bytes) e p)
