@@ -5,9 +5,6 @@ use mathlib.Core.List.{List}
 use Prim.Native.Nat.{ℕ}
 use native.Mathlib.Omega.{arith}
 use lib.ListN.{getD}
-use borrow.Author.Tests.{eq-eqb}
-use Rattle.base.specs.declared.refusal.Refusal.{Refusal}
-use Rattle.base.specs.Refusal.{refusalNumber}
 use Rattle.base.proofs.Tests.{never, if-true}
 use Rattle.layout.specs.declared.sections.Layout.{Layout}
 use Rattle.machine.specs.declared.state.Visit.the-variants.{Held}

@@ -7,7 +7,11 @@ pub mod SideLaws
 pub mod PassLaws
 pub mod MemoryLaws
 pub mod StepLaws
+pub mod QuickSets
+pub mod QuickRows
+pub mod QuickWords
 pub mod QuickLaws
+pub mod QuickPace
 pub mod QuickRun
 pub mod LentLaws
 pub mod GieLaws

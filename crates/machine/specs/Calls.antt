@@ -1,7 +1,7 @@
 -- What callers get: the first refusal in order, with the machine and memory as they came; or the definition's result.
 use Prim.Native.Nat.{ℕ}
 use mathlib.Core.Path.{_≡_}
-use mathlib.Core.Bool.{Bool, true, false, not}
+use mathlib.Core.Bool.{Bool, true, false}
 use mathlib.Core.List.{List, [], _∷_}
 use lib.Dec.{leb, ltb, eqb}
 use lib.ListN.{length}
@@ -11,10 +11,7 @@ use Rattle.base.specs.declared.refusal.Refusal.the-variants.{Map, Fence, Timeta
 use Rattle.base.specs.Refusal.{refusalNumber}
 use Rattle.layout.specs.declared.sections.Layout.{Layout}
 use Rattle.layout.specs.Rules.{accepted}
-use Rattle.machine.specs.declared.state.Time.{Time}
 use Rattle.machine.specs.declared.state.Machine.{Machine}
-use Rattle.machine.specs.declared.answer.Outcome.{Outcome}
-use Rattle.machine.specs.declared.answer.End.{End}
 use Rattle.machine.specs.declared.answer.Started.{Started}
 use Rattle.machine.specs.declared.answer.Stepped.{Stepped}
 use Rattle.machine.specs.declared.answer.Ran.{Ran}
@@ -26,8 +23,7 @@ use Rattle.machine.specs.declared.answer.RunAnswer.{RunAnswer}
 use Rattle.machine.specs.declared.answer.RunAnswer.the-variants.{Made as HasRun, Refused as NotRun}
 use Rattle.machine.specs.declared.verdict.Verdict.{Verdict}
 use Rattle.machine.specs.declared.verdict.Verdict.the-variants.{Taken as taken, Refused as refused}
-use Rattle.machine.specs.State.{World, world, start, framed}
-use Rattle.machine.specs.Interrupt.{Step}
+use Rattle.machine.specs.State.{World, start, framed}
 use Rattle.machine.specs.Step.{step}
 use Rattle.machine.specs.Run.{lastClock, Stop, stepOf, run}
 

@@ -5,7 +5,7 @@ use native.Mathlib.Omega.{arith}
 use borrow.Author.Needs.{needs}
 use Rattle.base.proofs.Tests.{holds}
 use Rattle.machine.specs.Quick.{stand, still}
-use Rattle.machine.proofs.QuickRun.{Pacing, effect-few, pacing-next}
+use Rattle.machine.proofs.QuickPace.{Pacing, effect-few, pacing-next}
 use Rattle.machine.proofs.quick.quick_steps.Statement.{statement}
 use Rattle.machine.proofs.quick.quick_steps.Tie as tie
 

@@ -1,0 +1,200 @@
+-- Quick steps in a row are steps. Assumes nothing.
+use mathlib.Core.Path.{_≡_, refl, sym, _∙_, ap, subst}
+use mathlib.Core.Bool.{Bool, true, false}
+use mathlib.Core.List.{List}
+use Prim.Native.Nat.{ℕ, _+_, _/_, _%_, _≤_, _<_, _^_}
+use native.Mathlib.Omega.{arith}
+use lib.Dec.{eqb}
+use lib.ListN.{length, getD}
+use borrow.Author.Tests.{ne-eqb}
+use Rattle.base.specs.Test.{if_then_else_}
+use Rattle.base.proofs.Tests.{cases, choose, if-false}
+use Rattle.isa.specs.Words.{begun}
+use Rattle.alu.specs.Status.{gie}
+use Rattle.layout.specs.declared.sections.Layout.{Layout}
+use Rattle.machine.specs.declared.state.Stamp.the-variants.{Never}
+use Rattle.machine.specs.declared.state.Visit.{Visit}
+use Rattle.machine.specs.declared.state.Visit.the-variants.{Free, Held}
+use Rattle.machine.specs.declared.state.Time.{Time}
+use Rattle.machine.specs.declared.state.Control.{Control}
+use Rattle.machine.specs.declared.state.Machine.{Machine}
+use Rattle.machine.specs.declared.answer.Outcome.the-variants.{Ran}
+use Rattle.machine.specs.declared.quick.Effect.{Effect}
+use Rattle.machine.specs.declared.quick.Quick.the-variants.{Does}
+use Rattle.machine.specs.Memory.{wordAt}
+use Rattle.machine.specs.Registers.{register, sr}
+use Rattle.machine.specs.State.{world, isHeld}
+use Rattle.machine.specs.Time.{pass}
+use Rattle.machine.specs.Judge.{judgeFirst}
+use Rattle.machine.specs.Interrupt.{gives}
+use Rattle.machine.specs.Step.{savedFor, step}
+use Rattle.machine.specs.Run.{lastClock}
+use Rattle.machine.specs.Quick.{later, Still, fetchable, putIf, Stand, stand, quickAt, paced, Paced, still, quicker, Leads, none, on}
+use Rattle.machine.specs.Lent.{joined, savedAfter}
+use Rattle.machine.proofs.InstructionLaws.{cycles-range}
+use Rattle.machine.proofs.MemoryLaws.{put-length}
+use Rattle.machine.proofs.StepLaws.{judged}
+use Rattle.machine.proofs.StillLaws.{still-later}
+use Rattle.machine.proofs.QuickLaws.{fetched-judged, afterEffect, acting-hushed, acting-step}
+use Rattle.machine.proofs.QuickRows.{Acting, Sound}
+use Rattle.machine.proofs.QuickWords.{quick-sound}
+
+-- ---- the saved copy
+
+saved-again : (v : Visit) (saved : List ℕ) → savedFor v (savedFor v saved) ≡ savedFor v saved
+saved-again Free saved = refl
+saved-again (Held previous age) saved = refl
+
+-- after one more step
+saved-on : (v : Visit) (saved : List ℕ) (k n : ℕ) → n ≡ k + 1 → savedAfter n v saved ≡ savedFor v (savedAfter k v saved)
+unfolding savedAfter
+saved-on v saved k n e =
+    if-false _ _ _ (ne-eqb n 0 (λ z. absurd (omega arith)))
+    ∙ sym (choose (λ (z : List ℕ). savedFor v z ≡ savedFor v saved) (eqb k 0) (λ h. refl) (λ h. saved-again v saved))
+
+-- ---- quick steps in a row
+
+module _ (L : Layout) (held : Bool) (s : Stand) (w : ℕ) (e : Effect) (does : quickAt L s w ≡ Does e) where
+  -- the instruction behind an effect
+  acting-at : Acting L held (s .registers) (s .memory) (begun w)
+      (register (s .registers) (w / 256 % 16)) (register (s .registers) (w % 16)) e
+  unfolding register
+  acting-at =
+      subst (Sound L held (s .registers) (s .memory) (begun w) _ _) does (quick-sound L held (s .registers) (s .memory) w)
+
+  pub effect-few : (1 ≤ e .cycles) × (e .cycles ≤ 5)
+  effect-few =
+      let r = cycles-range (acting-at .instruction) in
+      let t = acting-at .takes in
+      (omega arith, omega arith)
+
+put-if-length : (puts : Bool) (mem : List ℕ) (a w : ℕ) → length (putIf puts mem a w) ≡ length mem
+unfolding putIf
+put-if-length puts mem a w =
+    choose (λ (z : List ℕ). length z ≡ length mem) puts (λ h. put-length mem a w) (λ h. refl)
+
+-- what each turn of the loop of quick steps keeps
+pub record Pacing (L : Layout) (held : Bool) (until left : ℕ) (from s : Stand) (k : ℕ) : Type 0 where
+  pub size : length (s .memory) ≡ 65536
+  pub leads : Paced L held until from k s
+  pub within : k ≤ left
+  pub room : s .clock ≤ 2 ^ 63
+
+module _
+    (L : Layout) (held : Bool) (until left : ℕ) (from s : Stand) (k : ℕ) (q : Pacing L held until left from s k) (more : k < left)
+    (near : s .clock + 5 ≤ until) (f : fetchable L held (s .previous) (getD (s .registers) 0 0) ≡ true) (w : ℕ)
+    (word : w ≡ wordAt (s .memory) (getD (s .registers) 0 0)) (e : Effect) (does : quickAt L s w ≡ Does e) where
+  -- one more quick step
+  pub pacing-next : until ≤ lastClock → (bytes : List ℕ) → bytes ≡ paced e w s .memory
+      → Pacing L held until left from (stand (paced e w s .registers) (paced e w s .previous) (paced e w s .clock) bytes) (k + 1)
+  pacing-next early bytes b =
+      let h = effect-few L held s w e does .1 in
+      record {
+        size = ap (λ (z : List ℕ). length z) b ∙ put-if-length _ (s .memory) _ _ ∙ q .size;
+        leads =
+            quicker k (k + 1) s _ w e (q .leads) near f word does
+            (ap (λ (z : List ℕ). stand (paced e w s .registers) (paced e w s .previous) (paced e w s .clock) z) b) refl;
+        within = omega arith;
+        room = omega arith;
+      }
+
+-- the time at a clock value, with the slot and the alarm as they are
+abbrev timeAt : Time → ℕ → Time
+timeAt t clock = record { clock = clock; slot = t .slot; alarm = t .alarm }
+
+module _ (L : Layout) (stamps : List ℕ) where
+  -- a machine whose registers are lent, from which time only goes on up to a clock value
+  module _
+      (rs saved mem : List ℕ) (c : Control) (until : ℕ) (silent held : Bool) (calm : Still stamps silent (c .time) until)
+      (halting : c .halted ≡ true → until ≡ 0) (holding : held ≡ isHeld (c .visit))
+      (silence : silent ≡ true → gie (getD rs 2 0) ≡ false) where
+    -- the machine after k quick steps that led to a stand
+    abbrev machineAt : ℕ → Stand → Machine
+    machineAt k s =
+        record {
+          registers = s .registers;
+          previous = s .previous;
+          time = timeAt (c .time) (s .clock);
+          visit = c .visit;
+          saved = savedAfter k (c .visit) saved;
+          halted = c .halted;
+        }
+
+    -- what holds there
+    record Follows (k : ℕ) (s : Stand) : Type 0 where
+      leads : Leads L stamps (world (joined rs saved c) mem) k (world (machineAt k s) (s .memory))
+      going : Still stamps silent (timeAt (c .time) (s .clock)) until
+      hushed : silent ≡ true → gie (getD (s .registers) 2 0) ≡ false
+
+    module _
+        (k : ℕ) (s : Stand) (q : Follows k s) (near : s .clock + 5 ≤ until)
+        (f : fetchable L held (s .previous) (getD (s .registers) 0 0) ≡ true) (w : ℕ)
+        (word : w ≡ wordAt (s .memory) (getD (s .registers) 0 0)) (e : Effect) (does : quickAt L s w ≡ Does e) (n : ℕ)
+        (count : n ≡ k + 1) where
+      -- the machine runs
+      awake : c .halted ≡ false
+      awake = cases (c .halted) (λ h. let z = halting h in absurd (omega arith)) (λ h. h)
+
+      fits : Acting L (isHeld (c .visit)) (s .registers) (s .memory) (begun w)
+          (register (s .registers) (w / 256 % 16)) (register (s .registers) (w % 16)) e
+      fits = acting-at L (isHeld (c .visit)) s w e does
+
+      few : (1 ≤ e .cycles) × (e .cycles ≤ 5)
+      few = effect-few L held s w e does
+
+      judging : judged L (machineAt k s) (s .memory)
+          ≡ judgeFirst L (isHeld (c .visit)) (s .registers) (s .memory) (begun w)
+      unfolding register
+      judging =
+          fetched-judged L (isHeld (c .visit)) (s .registers) (s .memory) (s .previous)
+          (ap (λ (h : Bool). fetchable L h (s .previous) (getD (s .registers) 0 0)) (sym holding) ∙ f)
+          ∙ ap (λ (z : ℕ). judgeFirst L (isHeld (c .visit)) (s .registers) (s .memory) (begun z)) (sym word)
+
+      goes-on : pass stamps (e .cycles) (timeAt (c .time) (s .clock)) ≡ later (e .cycles) (timeAt (c .time) (s .clock))
+      goes-on = q .going .passes (e .cycles) (few .0) (let h = few .1 in omega arith)
+
+      nothing-pending : silent ≡ false → c .time .slot ≡ Never
+      nothing-pending = q .going .empty (e .cycles) (few .0) (let h = few .1 in omega arith)
+
+      stays-hushed : silent ≡ true → gie (sr (afterEffect e (machineAt k s) .registers)) ≡ false
+      unfolding register
+      stays-hushed =
+          acting-hushed L stamps (machineAt k s) (s .memory) awake (begun w) _ _ e fits judging goes-on silent (q .hushed) nothing-pending
+
+      quick-made : step L stamps (machineAt k s) (s .memory)
+          ≡ gives (afterEffect e (machineAt k s)) (paced e w s .memory) Ran
+      unfolding register
+      quick-made =
+          acting-step L stamps (machineAt k s) (s .memory) awake (begun w) _ _ e fits judging goes-on silent (q .hushed) nothing-pending
+
+      paced-after : machineAt n (paced e w s) ≡ afterEffect e (machineAt k s)
+      unfolding register
+      paced-after =
+          let g = fits .digit in
+          let d : e .number % 16 ≡ e .number = omega arith in
+          rw (d, saved-on (c .visit) saved k n count, awake)
+
+      -- one more quick step
+      follows-on : Follows n (paced e w s)
+      unfolding register
+      follows-on =
+          let h = few .1 in
+          let u = calm .bounded in
+          record {
+            leads =
+                on k n _ _ (q .leads) awake (omega arith)
+                (quick-made ∙ ap (λ (z : Machine). gives z (paced e w s .memory) Ran) (sym paced-after)) count;
+            going = still-later stamps silent (timeAt (c .time) (s .clock)) until (e .cycles) (q .going) (few .0) (omega arith);
+            hushed = λ l. ap (λ (z : Machine). gie (sr (z .registers))) paced-after ∙ stays-hushed l;
+          }
+
+    follows : (k : ℕ) (s : Stand) → Paced L held until (stand rs (c .previous) (c .time .clock) mem) k s → Follows k s
+    unfolding savedAfter if_then_else_
+    follows k s still = record { leads = none; going = calm; hushed = silence }
+    follows k s (quicker j n v next w e p near f word does eq count) =
+        subst (Follows n) (sym eq) (follows-on j v (follows j v p) near f w word e does n count)
+
+    -- quick steps are steps
+    pub quick-leads : (k : ℕ) (s : Stand) → Paced L held until (stand rs (c .previous) (c .time .clock) mem) k s
+        → Leads L stamps (world (joined rs saved c) mem) k (world (machineAt k s) (s .memory))
+    quick-leads k s p = follows k s p .leads
