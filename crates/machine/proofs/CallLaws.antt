@@ -16,7 +16,7 @@ use Rattle.machine.specs.declared.answer.Stepped.{Stepped}
 use Rattle.machine.specs.declared.answer.Ran.{Ran}
 use Rattle.machine.specs.declared.answer.StartAnswer.the-variants.{Made as HasStarted, Refused as NotStarted}
 use Rattle.machine.specs.declared.answer.StepAnswer.the-variants.{Made as HasStepped, Refused as NotStepped}
-use Rattle.machine.specs.declared.answer.RunAnswer.the-variants.{Made as HasRun, Refused as NotRun}
+use Rattle.machine.specs.declared.answer.RunAnswer.the-variants.{Refused as NotRun}
 use Rattle.machine.specs.declared.verdict.Verdict.{Verdict}
 use Rattle.machine.specs.declared.verdict.Verdict.the-variants.{Taken as taken, Refused as refused}
 use Rattle.machine.specs.declared.interrupt.Moved.{Moved}
@@ -25,7 +25,7 @@ use Rattle.machine.specs.Registers.{cleared}
 use Rattle.machine.specs.Time.{startTime}
 use Rattle.machine.specs.State.{World, world, resetAddress, fresh, start}
 use Rattle.machine.specs.Run.{lastClock, stepOf, run}
-use Rattle.machine.specs.Calls.{wholeMemory, timetable, Test, verdict, startTests, stepTests, runTests, stepAnswered, runAnswered, startCall, stepCall, runCall, runRefusal, refusedBy, Untouched, started, stepped, ran, stopped}
+use Rattle.machine.specs.Calls.{wholeMemory, timetable, Test, verdict, startTests, stepTests, runTests, stepAnswered, runAnswered, startCall, stepCall, runCall, stepRefusal, runRefusal, refusedBy, Untouched, started, stepped, ran, stopped}
 use Rattle.machine.proofs.Handed.{Handed}
 
 -- where all tests hold, the first does and the others do
@@ -90,18 +90,21 @@ module _ (L : Layout) (stamps : List ℕ) where
     unfolding stepCall
     step-call = ap (stepAnswered L stamps w) step-judged
 
+  -- what a step call promises of what it hands back
+  abbrev pub Promised : World → Stepped → List ℕ → Type 0
+  Promised w r bytes =
+      (r ≡ stepped (stepCall L stamps w))
+      × ((bytes ≡ stepCall L stamps w .memory)
+      × ((stepRefusal (r .answer) ≡ refusedBy (verdict (stepTests L stamps w)))
+      × Untouched (stepRefusal (r .answer)) w (world (r .machine) bytes)))
+
   module _ (w : World) where
     pub step-refused : (r : Refusal) → verdict (runTests L stamps 0 w) ≡ refused r
-        → (_≡_ {A = Stepped} (record { machine = w .machine; answer = NotStepped r }) (stepped (stepCall L stamps w)))
-        × ((w .memory ≡ stepCall L stamps w .memory)
-        × ((refusalNumber r ≡ refusedBy (verdict (stepTests L stamps w)))
-        × Untouched (refusalNumber r) w w))
+        → Promised w (record { machine = w .machine; answer = NotStepped r }) (w .memory)
     step-refused r e = let s = step-call w _ e in let v = step-judged w _ e in (rw s, (rw s, (rw v, λ n. (refl, refl))))
 
     pub step-taken : verdict (runTests L stamps 0 w) ≡ taken → (m : Moved) (bytes : List ℕ) → Handed m bytes (stepOf L stamps w)
-        → (_≡_ {A = Stepped} (record { machine = m .machine; answer = HasStepped (m .outcome) }) (stepped (stepCall L stamps w)))
-        × ((bytes ≡ stepCall L stamps w .memory)
-        × ((0 ≡ refusedBy (verdict (stepTests L stamps w))) × Untouched 0 w (world (m .machine) bytes)))
+        → Promised w (record { machine = m .machine; answer = HasStepped (m .outcome) }) bytes
     step-taken e m bytes h =
         let s = step-call w _ e in
         let v = step-judged w _ e in

@@ -6,25 +6,24 @@ use Prim.Native.Nat.{ℕ, _≤_}
 use native.Mathlib.Omega.{arith}
 use borrow.Author.Tests.{ne-eqb}
 use Rattle.base.proofs.Tests.{if-false}
-use Rattle.machine.specs.declared.state.Visit.{Visit}
 use Rattle.layout.specs.declared.sections.Layout.{Layout}
+use Rattle.machine.specs.declared.state.Visit.{Visit}
 use Rattle.machine.specs.declared.state.Visit.the-variants.{Free, Held}
 use Rattle.machine.specs.declared.state.Control.{Control}
 use Rattle.machine.specs.declared.state.Machine.{Machine}
 use Rattle.machine.specs.declared.answer.Outcome.the-variants.{Ran}
-use Rattle.machine.specs.declared.answer.Stepped.{Stepped}
 use Rattle.machine.specs.declared.answer.LentStepped.{LentStepped}
 use Rattle.machine.specs.declared.interrupt.Moved.{Moved}
 use Rattle.machine.specs.declared.quick.Went.{Went}
 use Rattle.machine.specs.Registers.{zeros}
-use Rattle.machine.specs.State.{World, world, isHeld}
+use Rattle.machine.specs.State.{world, isHeld}
 use Rattle.machine.specs.Interrupt.{moved}
 use Rattle.machine.specs.Step.{savedFor, step}
 use Rattle.machine.specs.Place.{Ready}
 use Rattle.machine.specs.Quick.{Leads}
-use Rattle.machine.specs.Calls.{verdict, stepTests, stepCall, stepRefusal, refusedBy, Untouched, stepped}
-use Rattle.machine.specs.Lent.{joined, controlOf, lentStepped, lentMoved, wentOn, savedAfter, QuickLeads}
+use Rattle.machine.specs.Lent.{joined, controlOf, lentStepped, lentMoved, controlAfter, savedAfter, QuickLeads}
 use Rattle.machine.proofs.Handed.{Handed, handed}
+use Rattle.machine.proofs.CallLaws.{Promised}
 use Rattle.machine.proofs.QuickRun.{leads-one}
 
 pub saved-held : (v : Visit) (saved : List ℕ) → isHeld v ≡ true → savedFor v saved ≡ saved
@@ -38,10 +37,10 @@ saved-free (Held previous age) saved e = absurd (true≢false e)
 -- after some quick steps the saved copy is the one that a step hands back
 pub quick-cleared : (L : Layout) (stamps : List ℕ) (c : Control) (rs mem : List ℕ) (went : Went) (rs' bytes : List ℕ)
     → QuickLeads L stamps c rs mem went rs' bytes → 1 ≤ went .steps → (saved kept : List ℕ) → kept ≡ savedFor (c .visit) saved
-    → Leads L stamps (world (joined rs saved c) mem) (went .steps) (world (joined rs' kept (wentOn c went)) bytes)
+    → Leads L stamps (world (joined rs saved c) mem) (went .steps) (world (joined rs' kept (controlAfter c went)) bytes)
 unfolding savedAfter
 quick-cleared L stamps c rs mem went rs' bytes q i saved kept e =
-    subst (λ (z : List ℕ). Leads L stamps (world (joined rs saved c) mem) (went .steps) (world (joined rs' z (wentOn c went)) bytes))
+    subst (λ (z : List ℕ). Leads L stamps (world (joined rs saved c) mem) (went .steps) (world (joined rs' z (controlAfter c went)) bytes))
     (if-false _ _ _ (ne-eqb (went .steps) 0 (λ z. absurd (omega arith))) ∙ sym e) (q saved)
 
 -- cycles can pass from the same clock value
@@ -50,7 +49,7 @@ ready-at {stamps} {place = place} {n = n} e r = subst (λ (z : ℕ). Ready stamp
 
 -- what one quick step hands back
 pub quick-handed : (L : Layout) (stamps rs saved mem rs' kept bytes : List ℕ) (c d : Control) (went : Went)
-    → QuickLeads L stamps c rs mem went rs' bytes → 1 ≤ went .steps → went .steps ≤ 1 → kept ≡ savedFor (c .visit) saved → d ≡ wentOn c went
+    → QuickLeads L stamps c rs mem went rs' bytes → 1 ≤ went .steps → went .steps ≤ 1 → kept ≡ savedFor (c .visit) saved → d ≡ controlAfter c went
     → Handed (lentMoved rs' kept (record { control = d; outcome = Ran })) bytes (step L stamps (joined rs saved c) mem)
 quick-handed L stamps rs saved mem rs' kept bytes c d went q i j k e =
     handed (leads-one L stamps _ _ _ (quick-cleared L stamps c rs mem went rs' bytes q i saved kept k) i j)
@@ -69,23 +68,15 @@ full-handed L stamps rs saved mem bytes c d m done e h k = (
 
 -- quick steps of a machine apart are steps of it joined
 pub leads-joined : (L : Layout) (stamps mem rs kept bytes : List ℕ) (m next : Machine) (c d : Control) (went : Went) → c ≡ controlOf m
-    → QuickLeads L stamps c (m .registers) mem went rs bytes → 1 ≤ went .steps → kept ≡ savedFor (m .visit) (m .saved) → d ≡ wentOn c went
+    → QuickLeads L stamps c (m .registers) mem went rs bytes → 1 ≤ went .steps → kept ≡ savedFor (m .visit) (m .saved) → d ≡ controlAfter c went
     → next ≡ joined rs kept d → Leads L stamps (world m mem) (went .steps) (world next bytes)
 leads-joined L stamps mem rs kept bytes m next c d went e q i k f g =
     subst (λ (z : Machine). Leads L stamps (world m mem) (went .steps) (world z bytes)) (ap (joined rs kept) (sym f) ∙ sym g)
     (subst
-    (λ (z : Control). Leads L stamps (world (joined (m .registers) (m .saved) z) mem) (went .steps) (world (joined rs kept (wentOn c went)) bytes))
+    (λ (z : Control). Leads L stamps (world (joined (m .registers) (m .saved) z) mem) (went .steps) (world (joined rs kept (controlAfter c went)) bytes))
     e
     (quick-cleared L stamps c (m .registers) mem went rs bytes q i (m .saved) kept
     (k ∙ ap (λ (z : Control). savedFor (z .visit) (m .saved)) (sym e))))
-
--- what a step call promises of what it hands back
-abbrev Promised : Layout → List ℕ → World → Stepped → List ℕ → Type 0
-Promised L stamps w r bytes =
-    (r ≡ stepped (stepCall L stamps w))
-    × ((bytes ≡ stepCall L stamps w .memory)
-    × ((stepRefusal (r .answer) ≡ refusedBy (verdict (stepTests L stamps w)))
-    × Untouched (stepRefusal (r .answer)) w (world (r .machine) bytes)))
 
 -- promised of a machine apart, it is promised of it joined
 pub step-joined : (L : Layout) (stamps mem bytes rs saved : List ℕ) (m next : Machine) (c : Control) (done : LentStepped)

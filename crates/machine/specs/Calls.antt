@@ -24,7 +24,6 @@ use Rattle.machine.specs.declared.answer.RunAnswer.the-variants.{Made as
 use Rattle.machine.specs.declared.verdict.Verdict.{Verdict}
 use Rattle.machine.specs.declared.verdict.Verdict.the-variants.{Taken as taken, Refused as refused}
 use Rattle.machine.specs.State.{World, start, framed}
-use Rattle.machine.specs.Step.{step}
 use Rattle.machine.specs.Run.{lastClock, Stop, stepOf, run}
 
 -- memory is 65,536 bytes

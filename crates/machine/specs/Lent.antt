@@ -41,8 +41,8 @@ abbrev pub lentMoved : List ℕ → List ℕ → LentMoved → Moved
 lentMoved registers saved r = record { machine = joined registers saved (r .control); outcome = r .outcome }
 
 -- what is beside the registers after quick steps
-abbrev pub wentOn : Control → Went → Control
-wentOn c w =
+abbrev pub controlAfter : Control → Went → Control
+controlAfter c w =
     record {
       previous = w .previous;
       time = record { clock = w .clock; slot = c .time .slot; alarm = c .time .alarm };
@@ -58,4 +58,4 @@ savedAfter steps visit saved = if eqb steps 0 then saved else savedFor visit sav
 abbrev pub QuickLeads : Layout → List ℕ → Control → List ℕ → List ℕ → Went → List ℕ → List ℕ → Type 0
 QuickLeads L stamps c registers mem went registersThen bytes =
     (saved : List ℕ) → Leads L stamps (world (joined registers saved c) mem) (went .steps)
-    (world (joined registersThen (savedAfter (went .steps) (c .visit) saved) (wentOn c went)) bytes)
+    (world (joined registersThen (savedAfter (went .steps) (c .visit) saved) (controlAfter c went)) bytes)

@@ -137,36 +137,36 @@ unfoldable pub putIf : Bool → List ℕ → ℕ → ℕ → List ℕ
 putIf puts mem a w = if puts then putWord mem a w else mem
 
 -- what quick steps change: the registers, the previous address, the clock and memory
-pub record Stand : Type 0 where
+pub record QuickState : Type 0 where
   pub registers : List ℕ
   pub previous : ℕ
   pub clock : ℕ
   pub memory : List ℕ
 
 -- these four
-abbrev pub stand : List ℕ → ℕ → ℕ → List ℕ → Stand
-stand registers previous clock memory = record { registers = registers; previous = previous; clock = clock; memory = memory }
+abbrev pub quickState : List ℕ → ℕ → ℕ → List ℕ → QuickState
+quickState registers previous clock memory = record { registers = registers; previous = previous; clock = clock; memory = memory }
 
 -- what the first word w at pc does
-abbrev pub quickAt : Layout → Stand → ℕ → Quick
+abbrev pub quickAt : Layout → QuickState → ℕ → Quick
 quickAt L s w =
     quick (getD (s .registers) 0 0) (getD (s .registers) 2 0) L (s .memory)
     (getD (s .registers) (w / 256 % 16) 0) (getD (s .registers) (w % 16) 0) w
 
--- where an effect of the first word w leads: the word is put, registers are set
-abbrev pub paced : Effect → ℕ → Stand → Stand
-paced e w s =
-    stand (set (set (set (s .registers) 0 (e .to)) (e .number % 16) (e .word)) 2 (e .status)) (getD (s .registers) 0 0)
+-- the state after an effect of the first word w: a word is put, registers are set
+abbrev pub applied : Effect → ℕ → QuickState → QuickState
+applied e w s =
+    quickState (set (set (set (s .registers) 0 (e .to)) (e .number % 16) (e .word)) 2 (e .status)) (getD (s .registers) 0 0)
     (s .clock + e .cycles)
     (putIf (e .puts) (s .memory) (getD (s .registers) (w % 16) 0) (getD (s .registers) (w / 256 % 16) 0))
 
 module _ (L : Layout) (held : Bool) (until : ℕ) where
-  -- k quick steps, each begun 5 cycles or more before a clock value, lead from one stand to another
-  pub data Paced (from : Stand) : ℕ → Stand → Type 0 where
-    still : Paced from 0 from
-    quicker : (k n : ℕ) (s next : Stand) (w : ℕ) (e : Effect) → Paced from k s → s .clock + 5 ≤ until
+  -- k quick steps, each begun 5 cycles or more before a clock value, lead from one such state to another
+  pub data QuickSteps (from : QuickState) : ℕ → QuickState → Type 0 where
+    noStep : QuickSteps from 0 from
+    oneMore : (k n : ℕ) (s next : QuickState) (w : ℕ) (e : Effect) → QuickSteps from k s → s .clock + 5 ≤ until
         → fetchable L held (s .previous) (getD (s .registers) 0 0) ≡ true → w ≡ wordAt (s .memory) (getD (s .registers) 0 0)
-        → quickAt L s w ≡ Does e → next ≡ paced e w s → n ≡ k + 1 → Paced from n next
+        → quickAt L s w ≡ Does e → next ≡ applied e w s → n ≡ k + 1 → QuickSteps from n next
 
 module _ (L : Layout) (stamps : List ℕ) where
   -- k steps that only ran lead from one world to another, each from a machine that goes on

@@ -8,7 +8,7 @@ ghost use Rattle.machine.specs.Step.{savedFor, step};
 ghost use Rattle.machine.specs.Run.{lastClock};
 ghost use Rattle.machine.specs.Place.{Ready};
 ghost use Rattle.machine.specs.Calls.{timetable};
-ghost use Rattle.machine.specs.Lent.{joined, controlOf, lentMoved, wentOn, QuickLeads};
+ghost use Rattle.machine.specs.Lent.{joined, controlOf, lentMoved, controlAfter, QuickLeads};
 use crate::answer::Outcome;
 use crate::quick::Went;
 use crate::quick::quick_steps;
@@ -66,7 +66,7 @@ impl Control {
 
     // What is beside the registers after quick steps.
     pub fn after(self, went: Went) -> Control
-        ensures { λ r. ⌜ r ≡ wentOn self went ⌝ }
+        ensures { λ r. ⌜ r ≡ controlAfter self went ⌝ }
     {
         let time = self.time;
         let visit = self.visit;

@@ -7,7 +7,7 @@ ghost use Rattle.base.specs.Test.{if_then_else_};
 ghost use Rattle.alu.specs.Arithmetic.{computed};
 ghost use Rattle.machine.specs.declared.quick.Quick.the-variants.{Rare as RARE};
 ghost use Rattle.machine.specs.Run.{lastClock};
-ghost use Rattle.machine.specs.Quick.{fetchable, leading, setting, computing, grouped, branching, registering, loading, constant, storing, moving, quick, putIf, stand, Paced};
+ghost use Rattle.machine.specs.Quick.{fetchable, leading, setting, computing, grouped, branching, registering, loading, constant, storing, moving, quick, putIf, quickState, QuickSteps};
 use crate::memory::put_word;
 use crate::memory::word_at;
 use alu::arithmetic::compute;
@@ -256,7 +256,7 @@ pub fn quick_steps(
 ) -> Went
     requires { ⌜ length (now mem) ≡ 65536 ⌝ }
     requires { ⌜ (clock ≤ 2 ^ 63) × (until ≤ lastClock) ⌝ }
-    ensures { λ r. ⌜ Paced layout held until (stand (now (registers .entry)) previous clock (now (mem .entry))) (r .steps) (stand (now (registers .exit)) (r .previous) (r .clock) (now (mem .exit))) ⌝ }
+    ensures { λ r. ⌜ QuickSteps layout held until (quickState (now (registers .entry)) previous clock (now (mem .entry))) (r .steps) (quickState (now (registers .exit)) (r .previous) (r .clock) (now (mem .exit))) ⌝ }
     ensures { λ r. ⌜ r .steps ≤ left ⌝ }
 {
     let mut last = previous;

@@ -1,6 +1,6 @@
 use denote.Ref.{now}
 use Rattle.base.proofs.Tests.{fails}
-use Rattle.machine.proofs.QuickPace.{quick-leads}
+use Rattle.machine.proofs.QuickSteps.{quick-leads}
 use borrow.Author.Needs.{needs}
 use Rattle.machine.proofs.lent.quick_from.Statement.{statement}
 use Rattle.machine.proofs.lent.quick_from.Tie as tie

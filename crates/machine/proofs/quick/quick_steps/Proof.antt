@@ -4,14 +4,14 @@ use Prim.Native.Nat.{_-_}
 use native.Mathlib.Omega.{arith}
 use borrow.Author.Needs.{needs}
 use Rattle.base.proofs.Tests.{holds}
-use Rattle.machine.specs.Quick.{stand, still}
-use Rattle.machine.proofs.QuickPace.{Pacing, effect-few, pacing-next}
+use Rattle.machine.specs.Quick.{quickState, noStep}
+use Rattle.machine.proofs.QuickSteps.{QuickLoop, effect-few, quick-loop-next}
 use Rattle.machine.proofs.quick.quick_steps.Statement.{statement}
 use Rattle.machine.proofs.quick.quick_steps.Tie as tie
 
 abbrev Inv-loop : tie.InvT-loop
 Inv-loop registers₀ previous clock held mem₀ layout until left last₀ time₀ steps₀ registers mem last time steps =
-    Pacing layout held until left (stand registers₀ previous clock mem₀) (stand registers last time mem) steps
+    QuickLoop layout held until left (quickState registers₀ previous clock mem₀) (quickState registers last time mem) steps
 
 abbrev μ-loop : tie.MeasureT-loop
 μ-loop registers₀ previous clock held mem₀ layout until left last₀ time₀ steps₀ registers mem last time steps =
@@ -20,7 +20,7 @@ abbrev μ-loop : tie.MeasureT-loop
 loop-holds : tie.Need-loop-holds Inv-loop μ-loop
 loop-holds c =
     let p = c .before .pre in
-    record { size = p .0; leads = still; within = omega arith; room = p .1 .0 }
+    record { size = p .0; leads = noStep; within = omega arith; room = p .1 .0 }
 
 add-if1 : tie.Need-add-if1 Inv-loop μ-loop
 add-if1 c = let r = c .before .loop .inv .room in omega arith
@@ -87,7 +87,7 @@ element-write-registers-3 c = search needs
 add-time : tie.Need-add-time Inv-loop μ-loop
 add-time c =
     let r = c .before .before .before .before .before .before .before .before .before .before .before .before .before .before .before .before .before .before .before .before .before .loop .inv .room in
-    let g = effect-few _ true (stand (c .before .before .before .before .before .before .before .before .before .before .before .before .before .before .before .before .before .before .before .before .before .loop .registers) (c .before .before .before .before .before .before .before .before .before .before .before .before .before .before .before .before .before .before .before .before .before .loop .last) (c .before .before .before .before .before .before .before .before .before .before .before .before .before .before .before .before .before .before .before .before .before .loop .time) (c .before .before .before .before .before .before .before .before .before .before .before .before .before .before .before .before .before .before .before .before .before .loop .mem)) _ _ (sym (c .before .before .before .before .before .before .before .before .before .quick-effect .ensures) ∙ c .before .before .before .before .before .before .before .e .given .1) .1 in
+    let g = effect-few _ true (quickState (c .before .before .before .before .before .before .before .before .before .before .before .before .before .before .before .before .before .before .before .before .before .loop .registers) (c .before .before .before .before .before .before .before .before .before .before .before .before .before .before .before .before .before .before .before .before .before .loop .last) (c .before .before .before .before .before .before .before .before .before .before .before .before .before .before .before .before .before .before .before .before .before .loop .time) (c .before .before .before .before .before .before .before .before .before .before .before .before .before .before .before .before .before .before .before .before .before .loop .mem)) _ _ (sym (c .before .before .before .before .before .before .before .before .before .quick-effect .ensures) ∙ c .before .before .before .before .before .before .before .e .given .1) .1 in
     omega arith
 
 add-steps : tie.Need-add-steps Inv-loop μ-loop
@@ -102,7 +102,7 @@ loop-less c =
 
 loop-again : tie.Need-loop-again Inv-loop μ-loop
 loop-again c =
-    pacing-next _ _ _ _ _ _ _ (c .before .before .before .before .before .before .before .before .before .before .before .before .before .before .before .before .before .before .before .before .before .loop .inv) (c .before .before .before .before .before .before .before .before .before .before .before .before .before .before .before .before .before .before .before .before .loop-test .taken) (c .before .before .before .before .before .before .before .before .before .before .before .before .before .before .before .before .before .before .before .if1 .left) (holds (c .before .before .before .before .before .before .before .before .before .before .before .before .before .before .before .before .before .may-fetch .ensures) (c .before .before .before .before .before .before .before .before .before .before .before .before .before .before .before .before .if2 .left)) _ (c .before .before .before .before .before .before .before .before .before .before .before .before .before .before .word-at .ensures) _ (sym (c .before .before .before .before .before .before .before .before .before .quick-effect .ensures) ∙ c .before .before .before .before .before .before .before .e .given .1) (c .before .before .before .before .before .before .before .before .before .before .before .before .before .before .before .before .before .before .before .before .before .before .before .pre .1 .1) _ (c .before .before .before .put-if .ensures)
+    quick-loop-next _ _ _ _ _ _ _ (c .before .before .before .before .before .before .before .before .before .before .before .before .before .before .before .before .before .before .before .before .before .loop .inv) (c .before .before .before .before .before .before .before .before .before .before .before .before .before .before .before .before .before .before .before .before .loop-test .taken) (c .before .before .before .before .before .before .before .before .before .before .before .before .before .before .before .before .before .before .before .if1 .left) (holds (c .before .before .before .before .before .before .before .before .before .before .before .before .before .before .before .before .before .may-fetch .ensures) (c .before .before .before .before .before .before .before .before .before .before .before .before .before .before .before .before .if2 .left)) _ (c .before .before .before .before .before .before .before .before .before .before .before .before .before .before .word-at .ensures) _ (sym (c .before .before .before .before .before .before .before .before .before .quick-effect .ensures) ∙ c .before .before .before .before .before .before .before .e .given .1) (c .before .before .before .before .before .before .before .before .before .before .before .before .before .before .before .before .before .before .before .before .before .before .before .pre .1 .1) _ (c .before .before .before .put-if .ensures)
 
 same-length : tie.Need-same-length Inv-loop μ-loop
 same-length c = c .before .loop .inv .size ∙ sym (c .before .before .before .pre .0)

@@ -29,7 +29,7 @@ use Rattle.machine.specs.Judge.{judgeFirst}
 use Rattle.machine.specs.Interrupt.{gives}
 use Rattle.machine.specs.Step.{savedFor, step}
 use Rattle.machine.specs.Run.{lastClock}
-use Rattle.machine.specs.Quick.{later, Still, fetchable, putIf, Stand, stand, quickAt, paced, Paced, still, quicker, Leads, none, on}
+use Rattle.machine.specs.Quick.{later, Still, fetchable, putIf, QuickState, quickState, quickAt, applied, QuickSteps, noStep, oneMore, Leads, none, on}
 use Rattle.machine.specs.Lent.{joined, savedAfter}
 use Rattle.machine.proofs.InstructionLaws.{cycles-range}
 use Rattle.machine.proofs.MemoryLaws.{put-length}
@@ -54,7 +54,7 @@ saved-on v saved k n e =
 
 -- ---- quick steps in a row
 
-module _ (L : Layout) (held : Bool) (s : Stand) (w : ℕ) (e : Effect) (does : quickAt L s w ≡ Does e) where
+module _ (L : Layout) (held : Bool) (s : QuickState) (w : ℕ) (e : Effect) (does : quickAt L s w ≡ Does e) where
   -- the instruction behind an effect
   acting-at : Acting L held (s .registers) (s .memory) (begun w)
       (register (s .registers) (w / 256 % 16)) (register (s .registers) (w % 16)) e
@@ -73,27 +73,27 @@ unfolding putIf
 put-if-length puts mem a w =
     choose (λ (z : List ℕ). length z ≡ length mem) puts (λ h. put-length mem a w) (λ h. refl)
 
--- what each turn of the loop of quick steps keeps
-pub record Pacing (L : Layout) (held : Bool) (until left : ℕ) (from s : Stand) (k : ℕ) : Type 0 where
+-- what the loop of quick steps keeps
+pub record QuickLoop (L : Layout) (held : Bool) (until left : ℕ) (from s : QuickState) (k : ℕ) : Type 0 where
   pub size : length (s .memory) ≡ 65536
-  pub leads : Paced L held until from k s
+  pub leads : QuickSteps L held until from k s
   pub within : k ≤ left
   pub room : s .clock ≤ 2 ^ 63
 
 module _
-    (L : Layout) (held : Bool) (until left : ℕ) (from s : Stand) (k : ℕ) (q : Pacing L held until left from s k) (more : k < left)
+    (L : Layout) (held : Bool) (until left : ℕ) (from s : QuickState) (k : ℕ) (q : QuickLoop L held until left from s k) (more : k < left)
     (near : s .clock + 5 ≤ until) (f : fetchable L held (s .previous) (getD (s .registers) 0 0) ≡ true) (w : ℕ)
     (word : w ≡ wordAt (s .memory) (getD (s .registers) 0 0)) (e : Effect) (does : quickAt L s w ≡ Does e) where
   -- one more quick step
-  pub pacing-next : until ≤ lastClock → (bytes : List ℕ) → bytes ≡ paced e w s .memory
-      → Pacing L held until left from (stand (paced e w s .registers) (paced e w s .previous) (paced e w s .clock) bytes) (k + 1)
-  pacing-next early bytes b =
+  pub quick-loop-next : until ≤ lastClock → (bytes : List ℕ) → bytes ≡ applied e w s .memory
+      → QuickLoop L held until left from (quickState (applied e w s .registers) (applied e w s .previous) (applied e w s .clock) bytes) (k + 1)
+  quick-loop-next early bytes b =
       let h = effect-few L held s w e does .1 in
       record {
         size = ap (λ (z : List ℕ). length z) b ∙ put-if-length _ (s .memory) _ _ ∙ q .size;
         leads =
-            quicker k (k + 1) s _ w e (q .leads) near f word does
-            (ap (λ (z : List ℕ). stand (paced e w s .registers) (paced e w s .previous) (paced e w s .clock) z) b) refl;
+            oneMore k (k + 1) s _ w e (q .leads) near f word does
+            (ap (λ (z : List ℕ). quickState (applied e w s .registers) (applied e w s .previous) (applied e w s .clock) z) b) refl;
         within = omega arith;
         room = omega arith;
       }
@@ -108,8 +108,8 @@ module _ (L : Layout) (stamps : List ℕ) where
       (rs saved mem : List ℕ) (c : Control) (until : ℕ) (silent held : Bool) (calm : Still stamps silent (c .time) until)
       (halting : c .halted ≡ true → until ≡ 0) (holding : held ≡ isHeld (c .visit))
       (silence : silent ≡ true → gie (getD rs 2 0) ≡ false) where
-    -- the machine after k quick steps that led to a stand
-    abbrev machineAt : ℕ → Stand → Machine
+    -- the machine after k quick steps
+    abbrev machineAt : ℕ → QuickState → Machine
     machineAt k s =
         record {
           registers = s .registers;
@@ -121,13 +121,13 @@ module _ (L : Layout) (stamps : List ℕ) where
         }
 
     -- what holds there
-    record Follows (k : ℕ) (s : Stand) : Type 0 where
+    record Follows (k : ℕ) (s : QuickState) : Type 0 where
       leads : Leads L stamps (world (joined rs saved c) mem) k (world (machineAt k s) (s .memory))
       going : Still stamps silent (timeAt (c .time) (s .clock)) until
       hushed : silent ≡ true → gie (getD (s .registers) 2 0) ≡ false
 
     module _
-        (k : ℕ) (s : Stand) (q : Follows k s) (near : s .clock + 5 ≤ until)
+        (k : ℕ) (s : QuickState) (q : Follows k s) (near : s .clock + 5 ≤ until)
         (f : fetchable L held (s .previous) (getD (s .registers) 0 0) ≡ true) (w : ℕ)
         (word : w ≡ wordAt (s .memory) (getD (s .registers) 0 0)) (e : Effect) (does : quickAt L s w ≡ Does e) (n : ℕ)
         (count : n ≡ k + 1) where
@@ -162,20 +162,20 @@ module _ (L : Layout) (stamps : List ℕ) where
           acting-hushed L stamps (machineAt k s) (s .memory) awake (begun w) _ _ e fits judging goes-on silent (q .hushed) nothing-pending
 
       quick-made : step L stamps (machineAt k s) (s .memory)
-          ≡ gives (afterEffect e (machineAt k s)) (paced e w s .memory) Ran
+          ≡ gives (afterEffect e (machineAt k s)) (applied e w s .memory) Ran
       unfolding register
       quick-made =
           acting-step L stamps (machineAt k s) (s .memory) awake (begun w) _ _ e fits judging goes-on silent (q .hushed) nothing-pending
 
-      paced-after : machineAt n (paced e w s) ≡ afterEffect e (machineAt k s)
+      applied-after : machineAt n (applied e w s) ≡ afterEffect e (machineAt k s)
       unfolding register
-      paced-after =
+      applied-after =
           let g = fits .digit in
           let d : e .number % 16 ≡ e .number = omega arith in
           rw (d, saved-on (c .visit) saved k n count, awake)
 
       -- one more quick step
-      follows-on : Follows n (paced e w s)
+      follows-on : Follows n (applied e w s)
       unfolding register
       follows-on =
           let h = few .1 in
@@ -183,18 +183,18 @@ module _ (L : Layout) (stamps : List ℕ) where
           record {
             leads =
                 on k n _ _ (q .leads) awake (omega arith)
-                (quick-made ∙ ap (λ (z : Machine). gives z (paced e w s .memory) Ran) (sym paced-after)) count;
+                (quick-made ∙ ap (λ (z : Machine). gives z (applied e w s .memory) Ran) (sym applied-after)) count;
             going = still-later stamps silent (timeAt (c .time) (s .clock)) until (e .cycles) (q .going) (few .0) (omega arith);
-            hushed = λ l. ap (λ (z : Machine). gie (sr (z .registers))) paced-after ∙ stays-hushed l;
+            hushed = λ l. ap (λ (z : Machine). gie (sr (z .registers))) applied-after ∙ stays-hushed l;
           }
 
-    follows : (k : ℕ) (s : Stand) → Paced L held until (stand rs (c .previous) (c .time .clock) mem) k s → Follows k s
+    follows : (k : ℕ) (s : QuickState) → QuickSteps L held until (quickState rs (c .previous) (c .time .clock) mem) k s → Follows k s
     unfolding savedAfter if_then_else_
-    follows k s still = record { leads = none; going = calm; hushed = silence }
-    follows k s (quicker j n v next w e p near f word does eq count) =
+    follows k s noStep = record { leads = none; going = calm; hushed = silence }
+    follows k s (oneMore j n v next w e p near f word does eq count) =
         subst (Follows n) (sym eq) (follows-on j v (follows j v p) near f w word e does n count)
 
     -- quick steps are steps
-    pub quick-leads : (k : ℕ) (s : Stand) → Paced L held until (stand rs (c .previous) (c .time .clock) mem) k s
+    pub quick-leads : (k : ℕ) (s : QuickState) → QuickSteps L held until (quickState rs (c .previous) (c .time .clock) mem) k s
         → Leads L stamps (world (joined rs saved c) mem) k (world (machineAt k s) (s .memory))
     quick-leads k s p = follows k s p .leads
