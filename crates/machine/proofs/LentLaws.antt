@@ -13,15 +13,19 @@ use Rattle.machine.specs.declared.state.Control.{Control}
 use Rattle.machine.specs.declared.state.Machine.{Machine}
 use Rattle.machine.specs.declared.answer.Outcome.the-variants.{Ran}
 use Rattle.machine.specs.declared.answer.LentStepped.{LentStepped}
+use Rattle.machine.specs.declared.answer.Ran.{Ran as RanAnswer}
 use Rattle.machine.specs.declared.interrupt.Moved.{Moved}
 use Rattle.machine.specs.declared.quick.Went.{Went}
+use Rattle.machine.specs.declared.run.LentRan.{LentRan}
 use Rattle.machine.specs.Registers.{zeros}
-use Rattle.machine.specs.State.{world, isHeld}
+use Rattle.machine.specs.State.{World, world, isHeld}
 use Rattle.machine.specs.Interrupt.{moved}
 use Rattle.machine.specs.Step.{savedFor, step}
+use Rattle.machine.specs.Run.{run}
+use Rattle.machine.specs.Calls.{stopped}
 use Rattle.machine.specs.Place.{Ready}
-use Rattle.machine.specs.Quick.{Leads}
-use Rattle.machine.specs.Lent.{joined, controlOf, lentStepped, lentMoved, controlAfter, savedAfter, QuickLeads}
+use Rattle.machine.specs.Quick.{Leads, Turn}
+use Rattle.machine.specs.Lent.{joined, controlOf, lentStepped, lentMoved, lentRan, controlAfter, savedAfter, QuickLeads}
 use Rattle.machine.proofs.Handed.{Handed, handed}
 use Rattle.machine.proofs.CallLaws.{Promised}
 use Rattle.machine.proofs.QuickRun.{leads-one}
@@ -55,6 +59,12 @@ quick-handed L stamps rs saved mem rs' kept bytes c d went q i j k e =
     handed (leads-one L stamps _ _ _ (quick-cleared L stamps c rs mem went rs' bytes q i saved kept k) i j)
     (ap (λ (z : Control). lentMoved rs' kept (record { control = z; outcome = Ran })) e, refl)
 
+-- a turn, by what is beside the registers after it
+pub turn-after : (L : Layout) (stamps : List ℕ) (left k : ℕ) (w : World) (rs saved bytes : List ℕ) {c d : Control} → d ≡ c
+    → Turn L stamps left w k (world (joined rs saved c) bytes) → Turn L stamps left w k (world (joined rs saved d) bytes)
+turn-after L stamps left k w rs saved bytes e t =
+    subst (λ (z : Control). Turn L stamps left w k (world (joined rs saved z) bytes)) (sym e) t
+
 -- what a full step hands back, apart and joined again
 pub full-handed : (L : Layout) (stamps rs saved mem bytes : List ℕ) (c d : Control) (m : Machine) (done : Moved) → m ≡ joined rs saved c
     → Handed done bytes (step L stamps m mem) → d ≡ controlOf (done .machine)
@@ -66,17 +76,18 @@ full-handed L stamps rs saved mem bytes c d m done e h k = (
   h .1 ∙ ap (λ (z : Machine). step L stamps z mem .memory) e,
 )
 
--- quick steps of a machine apart are steps of it joined
-pub leads-joined : (L : Layout) (stamps mem rs kept bytes : List ℕ) (m next : Machine) (c d : Control) (went : Went) → c ≡ controlOf m
-    → QuickLeads L stamps c (m .registers) mem went rs bytes → 1 ≤ went .steps → kept ≡ savedFor (m .visit) (m .saved) → d ≡ controlAfter c went
-    → next ≡ joined rs kept d → Leads L stamps (world m mem) (went .steps) (world next bytes)
-leads-joined L stamps mem rs kept bytes m next c d went e q i k f g =
-    subst (λ (z : Machine). Leads L stamps (world m mem) (went .steps) (world z bytes)) (ap (joined rs kept) (sym f) ∙ sym g)
-    (subst
-    (λ (z : Control). Leads L stamps (world (joined (m .registers) (m .saved) z) mem) (went .steps) (world (joined rs kept (controlAfter c went)) bytes))
-    e
-    (quick-cleared L stamps c (m .registers) mem went rs bytes q i (m .saved) kept
-    (k ∙ ap (λ (z : Control). savedFor (z .visit) (m .saved)) (sym e))))
+-- what a run hands back of a machine apart, it hands back of it joined
+pub run-joined : (L : Layout) (stamps mem bytes rs saved : List ℕ) (budget : ℕ) (m next : Machine) (c : Control) (done : LentRan)
+    → c ≡ controlOf m → next ≡ joined rs saved (done .control)
+    → (lentRan rs saved done ≡ stopped (run L stamps budget (world (joined (m .registers) (m .saved) c) mem)))
+    × (bytes ≡ run L stamps budget (world (joined (m .registers) (m .saved) c) mem) .memory)
+    → (_≡_ {A = RanAnswer} (record { machine = next; answer = done .answer }) (stopped (run L stamps budget (world m mem))))
+    × (bytes ≡ run L stamps budget (world m mem) .memory)
+run-joined L stamps mem bytes rs saved budget m next c done e f h = (
+  ap (λ (z : Machine). record { machine = z; answer = done .answer }) f ∙ h .0
+      ∙ ap (λ (z : Control). stopped (run L stamps budget (world (joined (m .registers) (m .saved) z) mem))) e,
+  h .1 ∙ ap (λ (z : Control). run L stamps budget (world (joined (m .registers) (m .saved) z) mem) .memory) e,
+)
 
 -- promised of a machine apart, it is promised of it joined
 pub step-joined : (L : Layout) (stamps mem bytes rs saved : List ℕ) (m next : Machine) (c : Control) (done : LentStepped)

@@ -9,9 +9,11 @@ use Rattle.machine.specs.declared.state.Control.{Control}
 use Rattle.machine.specs.declared.state.Machine.{Machine}
 use Rattle.machine.specs.declared.answer.Stepped.{Stepped}
 use Rattle.machine.specs.declared.answer.LentStepped.{LentStepped}
+use Rattle.machine.specs.declared.answer.Ran.{Ran}
 use Rattle.machine.specs.declared.interrupt.Moved.{Moved}
 use Rattle.machine.specs.declared.lent.LentMoved.{LentMoved}
 use Rattle.machine.specs.declared.quick.Went.{Went}
+use Rattle.machine.specs.declared.run.LentRan.{LentRan}
 use Rattle.machine.specs.State.{world}
 use Rattle.machine.specs.Step.{savedFor}
 use Rattle.machine.specs.Quick.{Leads}
@@ -39,6 +41,10 @@ lentStepped registers saved r = record { machine = joined registers saved (r .co
 -- and a step
 abbrev pub lentMoved : List ℕ → List ℕ → LentMoved → Moved
 lentMoved registers saved r = record { machine = joined registers saved (r .control); outcome = r .outcome }
+
+-- and a run
+abbrev pub lentRan : List ℕ → List ℕ → LentRan → Ran
+lentRan registers saved r = record { machine = joined registers saved (r .control); answer = r .answer }
 
 -- what is beside the registers after quick steps
 abbrev pub controlAfter : Control → Went → Control

@@ -8,26 +8,36 @@ ghost use Rattle.machine.specs.Run.{lastClock, run};
 ghost use Rattle.machine.specs.Place.{Ready};
 ghost use Rattle.machine.specs.Quick.{Turn};
 ghost use Rattle.machine.specs.Calls.{timetable, stopped};
+ghost use Rattle.machine.specs.Lent.{joined, lentRan};
 use crate::answer::End;
 use crate::answer::Ran;
 use crate::answer::RunAnswer;
 use crate::lent::clear_unheld;
+use crate::lent::full_step;
 use crate::lent::quick_from;
+use crate::state::Control;
 use crate::state::Machine;
-use crate::step::take_step;
 use crate::time::advance;
 use crate::time::first_place;
 use layout::sections::Layout;
 
-// How far a turn of a run went.
+// How far a turn of a run went: what is beside the registers after it, and its steps.
 pub struct Turned {
-    pub machine: Machine,
+    pub control: Control,
     pub steps: u64,
+}
+
+// What a run leaves beside the registers, which it changes where they lie.
+pub struct LentRan {
+    pub control: Control,
+    pub answer: RunAnswer,
 }
 
 // A turn of a run: quick steps if there are any, else one step.
 fn turn(
-    m: Machine,
+    control: Control,
+    registers: &mut [u16; 16],
+    saved: &mut [u16; 16],
     mem: &mut [u8],
     layout: Layout,
     stamps: &[u64],
@@ -35,39 +45,44 @@ fn turn(
     left: u64,
 ) -> Turned
     requires { ⌜ length (now mem) ≡ 65536 ⌝ }
-    requires { ⌜ Ready (now stamps) (m .time .clock) place 300 ⌝ }
-    requires { ⌜ (m .halted ≡ false) × (m .time .clock ≤ lastClock) × (1 ≤ left) ⌝ }
-    ensures { λ r. ⌜ Turn layout (now (stamps .entry)) left (world m (now (mem .entry))) (r .steps) (world (r .machine) (now (mem .exit))) ⌝ }
+    requires { ⌜ Ready (now stamps) (control .time .clock) place 300 ⌝ }
+    requires { ⌜ (control .halted ≡ false) × (control .time .clock ≤ lastClock) × (1 ≤ left) ⌝ }
+    ensures { λ r. ⌜ Turn layout (now (stamps .entry)) left (world (joined (now (registers .entry)) (now (saved .entry)) control) (now (mem .entry))) (r .steps) (world (joined (now (registers .exit)) (now (saved .exit)) (r .control)) (now (mem .exit))) ⌝ }
 {
-    let mut registers = m.registers;
-    let mut saved = m.saved;
-    let visit = m.visit;
-    let control = m.control();
-    let went = quick_from(control, &mut registers, mem, layout, stamps, place, left);
+    let visit = control.visit;
+    let went = quick_from(control, registers, mem, layout, stamps, place, left);
     if went.steps > 0 {
-        clear_unheld(visit, &mut saved);
+        clear_unheld(visit, saved);
         return Turned {
-            machine: control.after(went).machine(registers, saved),
+            control: control.after(went),
             steps: went.steps,
         };
     }
-    let moved = take_step(m, mem, layout, stamps, place);
-    let next = moved.machine;
+    let moved = full_step(control, registers, saved, mem, layout, stamps, place);
+    let next = moved.control;
     Turned {
-        machine: next,
+        control: next,
         steps: 1,
     }
 }
 
-// The steps of a run, counted; the place in the timetable goes along with the clock.
-pub fn run_steps(m: Machine, mem: &mut [u8], layout: Layout, stamps: &[u64], budget: u64) -> Ran
+// The steps of a run, counted; the registers stay where they lie, and the place in the timetable goes along with the clock.
+fn run_lent(
+    control: Control,
+    registers: &mut [u16; 16],
+    saved: &mut [u16; 16],
+    mem: &mut [u8],
+    layout: Layout,
+    stamps: &[u64],
+    budget: u64,
+) -> LentRan
     requires { ⌜ length (now mem) ≡ 65536 ⌝ }
     requires { ⌜ timetable (now stamps) ≡ true ⌝ }
-    ensures { λ r. ⌜ r ≡ stopped (run layout (now (stamps .entry)) budget (world m (now (mem .entry)))) ⌝ }
-    ensures { λ _. ⌜ now (mem .exit) ≡ run layout (now (stamps .entry)) budget (world m (now (mem .entry))) .memory ⌝ }
+    ensures { λ r. ⌜ lentRan (now (registers .exit)) (now (saved .exit)) r ≡ stopped (run layout (now (stamps .entry)) budget (world (joined (now (registers .entry)) (now (saved .entry)) control) (now (mem .entry)))) ⌝ }
+    ensures { λ _. ⌜ now (mem .exit) ≡ run layout (now (stamps .entry)) budget (world (joined (now (registers .entry)) (now (saved .entry)) control) (now (mem .entry))) .memory ⌝ }
 {
-    let mut current = m;
-    let mut place = first_place(stamps, m.time.clock);
+    let mut current = control;
+    let mut place = first_place(stamps, control.time.clock);
     let mut steps: u64 = 0;
     let end = loop {
         if current.halted {
@@ -79,13 +94,41 @@ pub fn run_steps(m: Machine, mem: &mut [u8], layout: Layout, stamps: &[u64], bud
         if steps == budget {
             break End::Spent;
         }
-        let turned = turn(current, mem, layout, stamps, place, budget - steps);
-        current = turned.machine;
+        let left = budget - steps;
+        let turned = turn(current, registers, saved, mem, layout, stamps, place, left);
+        current = turned.control;
         place = advance(stamps, place, current.time.clock);
         steps += turned.steps;
     };
-    Ran {
-        machine: current,
+    LentRan {
+        control: current,
         answer: RunAnswer::Made(end, steps),
+    }
+}
+
+// The steps of a run.
+pub fn run_steps(m: Machine, mem: &mut [u8], layout: Layout, stamps: &[u64], budget: u64) -> Ran
+    requires { ⌜ length (now mem) ≡ 65536 ⌝ }
+    requires { ⌜ timetable (now stamps) ≡ true ⌝ }
+    ensures { λ r. ⌜ r ≡ stopped (run layout (now (stamps .entry)) budget (world m (now (mem .entry)))) ⌝ }
+    ensures { λ _. ⌜ now (mem .exit) ≡ run layout (now (stamps .entry)) budget (world m (now (mem .entry))) .memory ⌝ }
+{
+    let mut registers = m.registers;
+    let mut saved = m.saved;
+    let control = m.control();
+    let done = run_lent(
+        control,
+        &mut registers,
+        &mut saved,
+        mem,
+        layout,
+        stamps,
+        budget,
+    );
+    let last = done.control;
+    let answer = done.answer;
+    Ran {
+        machine: last.machine(registers, saved),
+        answer: answer,
     }
 }

@@ -1,103 +1,24 @@
-use mathlib.Core.Path.{sym, _∙_, ap}
-use Prim.Native.Nat.{_-_}
-use native.Mathlib.Omega.{arith}
-use Rattle.machine.specs.declared.answer.End.the-variants.{Halted, Clock}
-use Rattle.machine.specs.State.{world}
-use Rattle.machine.specs.Run.{Stop}
-use Rattle.machine.specs.Calls.{stopped}
-use Rattle.machine.proofs.Turns.{Turning, ending-halted, ending-clock, turning-first, turning-ready, turning-passed, turning-next, turning-stops, turning-spent}
+use Rattle.machine.proofs.LentLaws.{run-joined}
+use borrow.Author.Needs.{needs}
 use Rattle.machine.proofs.run.run_steps.Statement.{statement}
 use Rattle.machine.proofs.run.run_steps.Tie as tie
 
-abbrev Inv-loop : tie.InvT-loop
-Inv-loop mem₀ layout stamps budget current₀ place₀ steps₀ mem current place steps =
-    Turning layout stamps budget (world current₀ mem₀) (world current mem) steps place
+control-requires : tie.Need-control-requires
+control-requires c κs = search needs
 
-abbrev μ-loop : tie.MeasureT-loop
-μ-loop mem₀ layout stamps budget current₀ place₀ steps₀ mem current place steps = budget - steps
+run-lent-requires : tie.Need-run-lent-requires
+run-lent-requires c κs = search needs
 
-first-place-requires : tie.Need-first-place-requires Inv-loop μ-loop
-first-place-requires c κs = c .before .before .pre .1
+machine-requires : tie.Need-machine-requires
+machine-requires c κs = search needs
 
-loop-holds : tie.Need-loop-holds Inv-loop μ-loop
-loop-holds c = turning-first _ _ _ _ _ (c .before .before .before .pre .0) (c .first-place .ensures)
+same-length : tie.Need-same-length
+same-length c = search needs
 
-sub-turn : tie.Need-sub-turn Inv-loop μ-loop
-sub-turn c = let i = c .before .before .before .before .before .loop .inv .within in omega arith
-
-turn-requires : tie.Need-turn-requires Inv-loop μ-loop
-turn-requires c κs =
-    let l = c .before .before .before .before .before .loop in
-    let i = l .inv .within in
-    let n = c .before .if3 .left in
-    (l .inv .size, (turning-ready _ _ _ _ _ _ _ (l .inv) (c .before .before .before .before .before .before .before .before .before .pre .1) (c .before .before .if2 .left), (c .before .before .before .before .if1 .left, c .before .before .if2 .left, omega arith)))
-
-advance-requires : tie.Need-advance-requires Inv-loop μ-loop
-advance-requires c κs =
-    let l = c .before .before .before .before .before .before .before .before .before .loop in
-    (c .before .before .before .before .before .before .before .before .before .before .before .before .before .pre .1, turning-passed _ _ _ _ _ _ _ (l .inv) _ (c .before .before .before .turn .ensures .rises))
-
-add-steps : tie.Need-add-steps Inv-loop μ-loop
-add-steps c =
-    let i = c .before .before .before .before .before .before .before .before .before .before .before .loop .inv .within in
-    let j = c .before .before .before .before .before .turn .ensures .within in
-    let k = c .before .before .before .before .before .before .before .before .before .before .before .before .before .before .before .fits .budget .fits in
-    omega arith
-
-loop-less : tie.Need-loop-less Inv-loop μ-loop
-loop-less c =
-    let i = c .before .before .before .before .before .before .before .before .before .before .before .loop .inv .within in
-    let j = c .before .before .before .before .before .turn .ensures .within in
-    let k = c .before .before .before .before .before .turn .ensures .some in
-    omega arith
-
-loop-again : tie.Need-loop-again Inv-loop μ-loop
-loop-again c = turning-next _ _ _ _ _ _ _ (c .before .before .before .before .before .before .before .before .before .before .before .loop .inv) _ _ (c .before .before .before .before .before .turn .ensures) _ (c .before .advance .ensures)
-
-same-length : tie.Need-same-length Inv-loop μ-loop
-same-length c = c .before .loop .inv .size ∙ sym (c .before .before .before .before .before .pre .0)
-
-returns : tie.Need-returns Inv-loop μ-loop
+returns : tie.Need-returns
 returns c =
-    let l = c .before .loop in
-    let o = turning-stops _ _ _ _ _ _ _ (l .inv) Halted (ending-halted _ (c .if1 .taken)) in
-    (sym (ap stopped o), sym (ap (λ (s : Stop). s .memory) o))
-
-same-length-2 : tie.Need-same-length-2 Inv-loop μ-loop
-same-length-2 c = c .before .before .before .loop .inv .size ∙ sym (c .before .before .before .before .before .before .before .pre .0)
-
-returns-2 : tie.Need-returns-2 Inv-loop μ-loop
-returns-2 c =
-    let l = c .before .before .before .loop in
-    let o = turning-stops _ _ _ _ _ _ _ (l .inv) Clock (ending-clock _ (c .before .before .if1 .left) (c .if2 .taken)) in
-    (sym (ap stopped o), sym (ap (λ (s : Stop). s .memory) o))
-
-same-length-3 : tie.Need-same-length-3 Inv-loop μ-loop
-same-length-3 c = c .before .before .before .before .loop .inv .size ∙ sym (c .before .before .before .before .before .before .before .before .pre .0)
-
-returns-3 : tie.Need-returns-3 Inv-loop μ-loop
-returns-3 c =
-    let l = c .before .before .before .before .loop in
-    let o = turning-spent _ _ _ _ _ _ _ (l .inv) (c .if3 .taken) (c .before .before .before .if1 .left) (c .before .if2 .left) in
-    (sym (ap stopped o), sym (ap (λ (s : Stop). s .memory) o))
+    run-joined _ _ _ _ _ _ _ _ _ _ _ (c .before .before .before .before .before .before .before .before .control .ensures) (c .machine .ensures) (c .before .before .before .before .run-lent .ensures)
 
 pub run-steps-spec : {M : Type 1} → statement M
 run-steps-spec =
-    tie.close
-    (tie.spec
-    Inv-loop
-    μ-loop
-    first-place-requires
-    loop-holds
-    sub-turn
-    turn-requires
-    advance-requires
-    add-steps
-    loop-less
-    loop-again
-    same-length
-    returns
-    same-length-2
-    returns-2
-    same-length-3
-    returns-3)
+    tie.close (tie.spec control-requires run-lent-requires machine-requires same-length returns)

@@ -1,24 +1,19 @@
 use mathlib.Core.Path.{_∙_, ap}
 use native.Mathlib.Omega.{arith}
 use denote.Ref.{now}
-use Rattle.machine.specs.declared.state.Control.{Control}
 use Rattle.machine.specs.State.{World}
 use Rattle.machine.specs.Step.{step}
 use Rattle.machine.specs.Run.{worldAfter}
+use Rattle.machine.specs.Lent.{joined}
 use Rattle.machine.proofs.Turns.{world-by}
-use Rattle.machine.proofs.LentLaws.{ready-at, leads-joined}
+use Rattle.machine.proofs.LentLaws.{quick-cleared, turn-after}
 use Rattle.machine.proofs.QuickRun.{turn-quick, turn-step, leads-none}
 use borrow.Author.Needs.{needs}
 use Rattle.machine.proofs.run.turn.Statement.{statement}
 use Rattle.machine.proofs.run.turn.Tie as tie
 
-control-requires : tie.Need-control-requires
-control-requires c κs = search needs
-
 quick-from-requires : tie.Need-quick-from-requires
-quick-from-requires c κs =
-    let p = c .before .before .before .before .before .before .before .pre in
-    (p .0, ready-at (ap (λ (z : Control). z .time .clock) (c .before .before .control .ensures)) (p .1 .0))
+quick-from-requires c κs = search needs
 
 clear-unheld-requires : tie.Need-clear-unheld-requires
 clear-unheld-requires c κs = search needs
@@ -26,46 +21,43 @@ clear-unheld-requires c κs = search needs
 after-requires : tie.Need-after-requires
 after-requires c κs = search needs
 
-machine-requires : tie.Need-machine-requires
-machine-requires c κs = search needs
-
 same-length : tie.Need-same-length
 same-length c = search needs
 
 returns : tie.Need-returns
 returns c =
-    let q = c .before .before .before .before .before .before .before .before .quick-from .ensures in
-    turn-quick _ _ _ _ _ _
-    (leads-joined _ _ _ _ _ _ _ _ _ _ (c .before .before .before .before .before .before .before .before .quick-from .result) (c .before .before .before .before .before .before .before .before .before .before .before .control .ensures) (q .0) (c .before .before .before .before .if1 .taken)
-    (c .before .before .clear-unheld .ensures) (c .before .after .ensures) (c .machine .ensures))
-    (c .before .before .before .before .if1 .taken) (q .1)
+    let a = c .before .before .before .before .before .before .before .before .before .before .before .before .args in
+    let q = c .before .before .before .before .before .before .before .quick-from .ensures in
+    turn-after _ _ _ _ _ _ _ _ (c .after .ensures)
+    (turn-quick _ _ _ _ _ _
+    (quick-cleared _ _ _ _ _ (c .before .before .before .before .before .before .before .quick-from .result) _ _ (q .0) (c .before .before .before .if1 .taken) (now (a .saved)) _ (c .before .clear-unheld .ensures))
+    (c .before .before .before .if1 .taken) (q .1))
 
-take-step-requires : tie.Need-take-step-requires
-take-step-requires c κs = search needs
+full-step-requires : tie.Need-full-step-requires
+full-step-requires c κs = search needs
 
 same-length-2 : tie.Need-same-length-2
 same-length-2 c = search needs
 
 returns-2 : tie.Need-returns-2
 returns-2 c =
-    let p = c .before .before .before .before .before .before .before .before .before .before .before .before .before .before .before .before .before .pre in
-    let a = c .before .before .before .before .before .before .before .before .before .before .before .before .before .before .before .before .before .args in
-    let z = leads-none _ _ _ _ _ (c .before .before .before .before .before .before .before .before .before .quick-from .ensures .0 (a .m .saved)) (let h = c .before .before .before .before .before .if1 .left in omega arith) in
-    let e = c .before .before .before .take-step .ensures in
+    let p = c .before .before .before .before .before .before .before .before .before .before .before .before .before .before .before .before .pre in
+    let a = c .before .before .before .before .before .before .before .before .before .before .before .before .before .before .before .before .args in
+    let z = leads-none _ _ _ _ _ (c .before .before .before .before .before .before .before .before .before .before .before .quick-from .ensures .0 (now (a .saved))) (let h = c .before .before .before .before .before .before .before .if1 .left in omega arith) in
+    let e = c .before .before .before .full-step .ensures in
     turn-step _ _ _ _ _ (p .1 .1 .0) (p .1 .1 .1) (p .1 .1 .2)
-    (world-by (e .0) (e .1) ∙ ap (λ (v : World). worldAfter (step (a .layout) (now (a .stamps)) (a .m) (v .memory))) z)
+    (world-by (e .0) (e .1)
+    ∙ ap (λ (v : World). worldAfter (step (a .layout) (now (a .stamps)) (joined (v .machine .registers) (now (a .saved)) (a .control)) (v .memory))) z)
 
 pub turn-spec : {M : Type 1} → statement M
 turn-spec =
     tie.close
     (tie.spec
-    control-requires
     quick-from-requires
     clear-unheld-requires
     after-requires
-    machine-requires
     same-length
     returns
-    take-step-requires
+    full-step-requires
     same-length-2
     returns-2)
