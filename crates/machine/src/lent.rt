@@ -126,7 +126,7 @@ pub fn quick_from(
 }
 
 // One step that is not quick.
-pub fn full_step(
+fn full_step(
     control: Control,
     registers: &mut [u16; 16],
     saved: &mut [u16; 16],

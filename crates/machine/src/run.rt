@@ -13,10 +13,10 @@ use crate::answer::End;
 use crate::answer::Ran;
 use crate::answer::RunAnswer;
 use crate::lent::clear_unheld;
-use crate::lent::full_step;
 use crate::lent::quick_from;
 use crate::state::Control;
 use crate::state::Machine;
+use crate::step::take_step;
 use crate::time::advance;
 use crate::time::first_place;
 use layout::sections::Layout;
@@ -58,10 +58,16 @@ fn turn(
             steps: went.steps,
         };
     }
-    let moved = full_step(control, registers, saved, mem, layout, stamps, place);
-    let next = moved.control;
+    // As `full_step`, which is not called here: a function that a step call and a run share is called through memory.
+    let m = control.machine(*registers, *saved);
+    let done = take_step(m, mem, layout, stamps, place);
+    let next = done.machine;
+    let file = next.registers;
+    let held = next.saved;
+    *registers = file;
+    *saved = held;
     Turned {
-        control: next,
+        control: next.control(),
         steps: 1,
     }
 }
