@@ -58,7 +58,7 @@ fn turn(
             steps: went.steps,
         };
     }
-    // As `full_step`, which is not called here: a function that a step call and a run share is called through memory.
+    // As `full_step`, which is not called here: a step call was measured slower where a run shares that function.
     let m = control.machine(*registers, *saved);
     let done = take_step(m, mem, layout, stamps, place);
     let next = done.machine;
