@@ -15,7 +15,7 @@ use Rattle.isa.specs.declared.read.Begun.{Begun}
 use Rattle.isa.specs.declared.read.Begun.the-variants.{Nothing, Found}
 use Rattle.isa.specs.Table.{lineOf, rows, movable, pointer, firstWord, sDigit, dDigit}
 use Rattle.isa.specs.Words.{hasWord, begunIn, begun}
-use Rattle.isa.specs.Dispatch.{ownWords, registerMoves, moves, computes, dispatch}
+use Rattle.isa.specs.internal.Dispatch.{ownWords, registerMoves, moves, computes, dispatch}
 
 abbrev found : Row → ℕ → Begun
 found r w = Found r (sDigit r w) (dDigit r w)

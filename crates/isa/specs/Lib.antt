@@ -1,6 +1,6 @@
 pub mod Table
 pub mod Cycles
 pub mod Words
-pub mod Dispatch
+pub mod internal
 pub mod Laws
 pub mod Starred

@@ -3,7 +3,7 @@ ghost use mathlib.Core.Path.{_≡_};
 ghost use Rattle.base.specs.Test.{if_then_else_};
 ghost use Rattle.isa.specs.Table.{pointer};
 ghost use Rattle.isa.specs.Words.{begun, twoWords, finished, reading, decodes, readingRefusal};
-ghost use Rattle.isa.specs.Dispatch.{ownWords, registerMoves, moves, computes, dispatch};
+ghost use Rattle.isa.specs.internal.Dispatch.{ownWords, registerMoves, moves, computes, dispatch};
 use crate::instruction::Instruction;
 use crate::instruction::Operation;
 use crate::table::Row;

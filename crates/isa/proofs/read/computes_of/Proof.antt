@@ -1,5 +1,5 @@
 use Rattle.base.specs.Test.{if_then_else_}
-use Rattle.isa.specs.Dispatch.{computes}
+use Rattle.isa.specs.internal.Dispatch.{computes}
 use borrow.Author.Tests.{ne-eqb}
 use Rattle.isa.proofs.read.computes_of.Statement.{statement}
 use Rattle.isa.proofs.read.computes_of.Tie as tie

@@ -1,5 +1,5 @@
 use Rattle.base.specs.Test.{if_then_else_}
-use Rattle.isa.specs.Dispatch.{dispatch}
+use Rattle.isa.specs.internal.Dispatch.{dispatch}
 use borrow.Author.Tests.{ne-eqb}
 use borrow.Author.Needs.{needs}
 use Rattle.isa.proofs.read.dispatch_word.Statement.{statement}
