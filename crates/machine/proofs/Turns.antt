@@ -8,27 +8,28 @@ use lib.ListN.{length}
 use borrow.Author.Tests.{lt-ltb, le-ltb}
 use Rattle.base.proofs.Tests.{if-true, if-false}
 use Rattle.layout.specs.declared.sections.Layout.{Layout}
-use Rattle.machine.specs.declared.state.Machine.{Machine}
-use Rattle.machine.specs.declared.answer.End.{End}
-use Rattle.machine.specs.declared.answer.End.the-variants.{Halted, Clock, Spent}
-use Rattle.machine.specs.declared.interrupt.Moved.{Moved}
-use Rattle.machine.specs.State.{World, world}
-use Rattle.machine.specs.Interrupt.{Step, moved}
-use Rattle.machine.specs.Run.{lastClock, goes, stops, ending, worldAfter, runFrom, run, stopOr}
-use Rattle.machine.specs.Place.{Passed, RightPlace, Ready}
-use Rattle.machine.specs.Calls.{timetable}
-use Rattle.machine.specs.Quick.{Turn}
+use Rattle.definition.specs.declared.state.State.{State}
+use Rattle.definition.specs.declared.answer.End.{End}
+use Rattle.definition.specs.declared.answer.End.the-variants.{Halted, Clock, Spent}
+use Rattle.interrupt.specs.declared.service.Moved.{Moved}
+use Rattle.definition.specs.State.{World, world}
+use Rattle.definition.specs.Interrupt.{Step}
+use Rattle.interrupt.specs.Moved.{moved}
+use Rattle.definition.specs.Run.{lastClock, goes, stops, ending, worldAfter, runFrom, run, stopOr}
+use Rattle.clock.specs.Place.{Passed, RightPlace, Ready}
+use Rattle.definition.specs.Calls.{timetable}
+use Rattle.machine.specs.Turn.{Turn}
 
 -- why the loop leaves, and where it does not
-pub ending-halted : (m : Machine) → m .halted ≡ true → ending m ≡ stops Halted
+pub ending-halted : (m : State) → m .halted ≡ true → ending m ≡ stops Halted
 unfolding ending
 ending-halted m h = if-true _ _ _ h
 
-pub ending-clock : (m : Machine) → m .halted ≡ false → lastClock < m .time .clock → ending m ≡ stops Clock
+pub ending-clock : (m : State) → m .halted ≡ false → lastClock < m .time .clock → ending m ≡ stops Clock
 unfolding ending
 ending-clock m h k = if-false _ _ _ h ∙ if-true _ _ _ (lt-ltb _ _ k)
 
-pub ending-goes : (m : Machine) → m .halted ≡ false → m .time .clock ≤ lastClock → ending m ≡ goes
+pub ending-goes : (m : State) → m .halted ≡ false → m .time .clock ≤ lastClock → ending m ≡ goes
 unfolding ending
 ending-goes m h k = if-false _ _ _ h ∙ if-false _ _ _ (le-ltb _ _ k)
 
@@ -41,7 +42,7 @@ module _ (L : Layout) (stamps : List ℕ) where
   pub record Turning (budget : ℕ) (from w : World) (n place : ℕ) : Type 0 where
     pub size : length (w .memory) ≡ 65536
     pub within : n ≤ budget
-    pub place-passed : Passed stamps (w .machine .time .clock) place
+    pub placed : RightPlace stamps (w .machine .time .clock) place
     pub lands : run L stamps budget from ≡ runFrom L stamps n (budget - n) w
 
   pub turning-first : (budget : ℕ) (w : World) (place : ℕ) → length (w .memory) ≡ 65536
@@ -49,7 +50,7 @@ module _ (L : Layout) (stamps : List ℕ) where
   unfolding run
   turning-first budget w place h p =
       let e : budget - 0 ≡ budget = omega arith in
-      record { size = h; within = omega arith; place-passed = p .passed; lands = rw e }
+      record { size = h; within = omega arith; placed = p; lands = rw e }
 
   module _ (budget : ℕ) (from w : World) (n place : ℕ) (t : Turning budget from w n place) where
     -- a turn
@@ -62,7 +63,7 @@ module _ (L : Layout) (stamps : List ℕ) where
         record {
           size = u .size ∙ t .size;
           within = omega arith;
-          place-passed = p .passed;
+          placed = p;
           lands = t .lands ∙ u .lands n ∙ ap (λ (z : ℕ). runFrom L stamps (n + k) z next) e;
         }
 
@@ -90,12 +91,12 @@ module _ (L : Layout) (stamps : List ℕ) where
     -- what a step asks for
     pub turning-ready : timetable stamps ≡ true → w .machine .time .clock ≤ lastClock
         → Ready stamps (w .machine .time .clock) place 300
-    turning-ready h k = record { timed = h; passed = t .place-passed; room = omega arith }
+    turning-ready h k = record { timed = h; passed = t .placed .passed; room = omega arith }
 
     -- and what finding the next place asks for
     pub turning-passed : (clock : ℕ) → w .machine .time .clock ≤ clock → Passed stamps clock place
     turning-passed clock g =
         record {
-          fits = t .place-passed .fits;
-          gone = λ i j. let o = t .place-passed .gone i j in omega arith;
+          fits = t .placed .passed .fits;
+          gone = λ i j. let o = t .placed .passed .gone i j in omega arith;
         }

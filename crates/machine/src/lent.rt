@@ -3,27 +3,26 @@ ghost use mathlib.Core.Path.{_≡_};
 ghost use mathlib.Core.Bool.{true};
 ghost use Prim.Native.Nat.{_≤_};
 ghost use lib.ListN.{length};
-ghost use Rattle.machine.specs.Interrupt.{moved};
-ghost use Rattle.machine.specs.Step.{savedFor, step};
-ghost use Rattle.machine.specs.Run.{lastClock};
-ghost use Rattle.machine.specs.Place.{Ready};
-ghost use Rattle.machine.specs.Calls.{timetable};
-ghost use Rattle.machine.specs.Lent.{joined, controlOf, lentMoved, controlAfter, QuickLeads};
-use crate::answer::Outcome;
-use crate::quick::Went;
-use crate::quick::quick_steps;
-use crate::registers::zero_registers;
-use crate::state::Control;
-use crate::state::Machine;
-use crate::state::Time;
-use crate::state::Visit;
-use crate::step::is_held;
-use crate::step::take_step;
-use crate::time::advance;
-use crate::time::first_place;
-use crate::time::still_until;
+ghost use Rattle.interrupt.specs.Moved.{moved};
+ghost use Rattle.definition.specs.Step.{savedFor, step};
+ghost use Rattle.definition.specs.Run.{lastClock};
+ghost use Rattle.clock.specs.Place.{RightPlace, Ready};
+ghost use Rattle.definition.specs.Calls.{timetable};
+ghost use Rattle.act.specs.Control.{joined, controlOf};
+ghost use Rattle.machine.specs.Lent.{lentMoved, controlAfter, FastLeads};
+use act::control::Control;
+use act::registers::zero_registers;
 use alu::status::gie_is_set;
+use clock::time::first_place;
+use clock::time::still_until;
+use definition::answer::Outcome;
+use definition::state::Time;
+use definition::state::Visit;
+use fast::steps::Went;
+use fast::steps::fast_steps;
 use layout::sections::Layout;
+use step::step::is_held;
+use step::step::take_step;
 
 // What a step makes beside the registers, which it changes where they lie.
 pub struct LentMoved {
@@ -31,55 +30,21 @@ pub struct LentMoved {
     pub outcome: Outcome,
 }
 
-impl Machine {
-    // What is beside the registers.
-    pub fn control(self) -> Control
-        ensures { λ r. ⌜ r ≡ controlOf self ⌝ }
-    {
-        let time = self.time;
-        let visit = self.visit;
-        Control {
-            previous: self.previous,
-            time: time,
-            visit: visit,
-            halted: self.halted,
-        }
-    }
-}
-
-impl Control {
-    // The machine with these registers and saved registers.
-    pub fn machine(self, registers: [u16; 16], saved: [u16; 16]) -> Machine
-        ensures { λ r. ⌜ r ≡ joined registers saved self ⌝ }
-    {
-        let time = self.time;
-        let visit = self.visit;
-        Machine {
-            registers: registers,
-            previous: self.previous,
-            time: time,
-            visit: visit,
-            saved: saved,
-            halted: self.halted,
-        }
-    }
-
-    // What is beside the registers after quick steps.
-    pub fn after(self, went: Went) -> Control
-        ensures { λ r. ⌜ r ≡ controlAfter self went ⌝ }
-    {
-        let time = self.time;
-        let visit = self.visit;
-        let later = Time {
-            clock: went.clock,
-            ..time
-        };
-        Control {
-            previous: went.previous,
-            time: later,
-            visit: visit,
-            halted: self.halted,
-        }
+// What is beside the registers after fast steps.
+pub fn control_after(control: Control, went: Went) -> Control
+    ensures { λ r. ⌜ r ≡ controlAfter control went ⌝ }
+{
+    let time = control.time;
+    let visit = control.visit;
+    let later = Time {
+        clock: went.clock,
+        ..time
+    };
+    Control {
+        previous: went.previous,
+        time: later,
+        visit: visit,
+        halted: control.halted,
     }
 }
 
@@ -93,8 +58,8 @@ pub fn clear_unheld(visit: Visit, saved: &mut [u16; 16])
     *saved = zero_registers();
 }
 
-// Quick steps, as many as there are and as are left.
-pub fn quick_from(
+// Fast steps, as many as there are and as are left, from the clock's place in the timetable.
+pub fn fast_from(
     control: Control,
     registers: &mut [u16; 16],
     mem: &mut [u8],
@@ -103,17 +68,16 @@ pub fn quick_from(
     place: usize,
     left: u64,
 ) -> Went
-    requires { ⌜ length (now mem) ≡ 65536 ⌝ }
-    requires { ⌜ Ready (now stamps) (control .time .clock) place 300 ⌝ }
-    ensures { λ r. ⌜ QuickLeads layout (now (stamps .entry)) control (now (registers .entry)) (now (mem .entry)) r (now (registers .exit)) (now (mem .exit)) ⌝ }
+    requires { ⌜ timetable (now stamps) ≡ true ⌝ }
+    requires { ⌜ RightPlace (now stamps) (control .time .clock) place ⌝ }
+    ensures { λ r. ⌜ FastLeads layout (now (stamps .entry)) control (now (registers .entry)) (now (mem .entry)) r (now (registers .exit)) (now (mem .exit)) ⌝ }
     ensures { λ r. ⌜ r .steps ≤ left ⌝ }
 {
     let time = control.time;
     let visit = control.visit;
     let silent = !gie_is_set(registers[2]);
-    let next = advance(stamps, place, time.clock);
-    let until = still_until(control.halted, silent, time, stamps, next);
-    quick_steps(
+    let until = still_until(control.halted, silent, time, stamps, place);
+    fast_steps(
         registers,
         control.previous,
         time.clock,
@@ -125,7 +89,7 @@ pub fn quick_from(
     )
 }
 
-// One step that is not quick.
+// One step that is not fast.
 fn full_step(
     control: Control,
     registers: &mut [u16; 16],
@@ -140,7 +104,7 @@ fn full_step(
     ensures { λ r. ⌜ lentMoved (now (registers .exit)) (now (saved .exit)) r ≡ moved (step layout (now (stamps .entry)) (joined (now (registers .entry)) (now (saved .entry)) control) (now (mem .entry))) ⌝ }
     ensures { λ _. ⌜ now (mem .exit) ≡ step layout (now (stamps .entry)) (joined (now (registers .entry)) (now (saved .entry)) control) (now (mem .entry)) .memory ⌝ }
 {
-    let m = control.machine(*registers, *saved);
+    let m = control.state(*registers, *saved);
     let done = take_step(m, mem, layout, stamps, place);
     let next = done.machine;
     let outcome = done.outcome;
@@ -149,12 +113,12 @@ fn full_step(
     *registers = file;
     *saved = held;
     LentMoved {
-        control: next.control(),
+        control: Control::of(next),
         outcome: outcome,
     }
 }
 
-// One step by itself, quick if it can be.
+// One step by itself, fast if it can be.
 pub fn one_step(
     control: Control,
     registers: &mut [u16; 16],
@@ -170,11 +134,11 @@ pub fn one_step(
 {
     let visit = control.visit;
     let place = first_place(stamps, control.time.clock);
-    let went = quick_from(control, registers, mem, layout, stamps, place, 1);
+    let went = fast_from(control, registers, mem, layout, stamps, place, 1);
     if went.steps > 0 {
         clear_unheld(visit, saved);
         return LentMoved {
-            control: control.after(went),
+            control: control_after(control, went),
             outcome: Outcome::Ran,
         };
     }

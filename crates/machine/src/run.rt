@@ -3,23 +3,27 @@ ghost use mathlib.Core.Path.{_≡_};
 ghost use mathlib.Core.Bool.{true, false};
 ghost use Prim.Native.Nat.{_≤_};
 ghost use lib.ListN.{length};
-ghost use Rattle.machine.specs.State.{world};
-ghost use Rattle.machine.specs.Run.{lastClock, run};
-ghost use Rattle.machine.specs.Place.{Ready};
-ghost use Rattle.machine.specs.Quick.{Turn};
-ghost use Rattle.machine.specs.Calls.{timetable, stopped};
-ghost use Rattle.machine.specs.Lent.{joined, lentRan};
-use crate::answer::End;
+ghost use Rattle.definition.specs.State.{world};
+ghost use Rattle.definition.specs.Run.{lastClock, run};
+ghost use Rattle.clock.specs.Place.{RightPlace, Ready};
+ghost use Rattle.machine.specs.Turn.{Turn};
+ghost use Rattle.definition.specs.Calls.{timetable};
+ghost use Rattle.machine.specs.Answers.{stopped};
+ghost use Rattle.act.specs.Control.{joined};
+ghost use Rattle.machine.specs.Lent.{lentRan};
 use crate::answer::Ran;
-use crate::answer::RunAnswer;
+use crate::calls::Machine;
 use crate::lent::clear_unheld;
-use crate::lent::quick_from;
-use crate::state::Control;
-use crate::state::Machine;
-use crate::step::take_step;
-use crate::time::advance;
-use crate::time::first_place;
+use crate::lent::control_after;
+use crate::lent::fast_from;
+use act::control::Control;
+use clock::time::advance;
+use clock::time::first_place;
+use definition::answer::End;
+use definition::answer::RunAnswer;
+use definition::state::State;
 use layout::sections::Layout;
+use step::step::take_step;
 
 // How far a turn of a run went: what is beside the registers after it, and its steps.
 pub struct Turned {
@@ -33,7 +37,7 @@ pub struct LentRan {
     pub answer: RunAnswer,
 }
 
-// A turn of a run: quick steps if there are any, else one step.
+// A turn of a run: fast steps if there are any, else one step.
 fn turn(
     control: Control,
     registers: &mut [u16; 16],
@@ -46,20 +50,21 @@ fn turn(
 ) -> Turned
     requires { ⌜ length (now mem) ≡ 65536 ⌝ }
     requires { ⌜ Ready (now stamps) (control .time .clock) place 300 ⌝ }
+    requires { ⌜ RightPlace (now stamps) (control .time .clock) place ⌝ }
     requires { ⌜ (control .halted ≡ false) × (control .time .clock ≤ lastClock) × (1 ≤ left) ⌝ }
     ensures { λ r. ⌜ Turn layout (now (stamps .entry)) left (world (joined (now (registers .entry)) (now (saved .entry)) control) (now (mem .entry))) (r .steps) (world (joined (now (registers .exit)) (now (saved .exit)) (r .control)) (now (mem .exit))) ⌝ }
 {
     let visit = control.visit;
-    let went = quick_from(control, registers, mem, layout, stamps, place, left);
+    let went = fast_from(control, registers, mem, layout, stamps, place, left);
     if went.steps > 0 {
         clear_unheld(visit, saved);
         return Turned {
-            control: control.after(went),
+            control: control_after(control, went),
             steps: went.steps,
         };
     }
     // As `full_step`, which is not called here: a step call was measured slower where a run shares that function.
-    let m = control.machine(*registers, *saved);
+    let m = control.state(*registers, *saved);
     let done = take_step(m, mem, layout, stamps, place);
     let next = done.machine;
     let file = next.registers;
@@ -67,7 +72,7 @@ fn turn(
     *registers = file;
     *saved = held;
     Turned {
-        control: next.control(),
+        control: Control::of(next),
         steps: 1,
     }
 }
@@ -113,7 +118,7 @@ fn run_lent(
 }
 
 // The steps of a run.
-pub fn run_steps(m: Machine, mem: &mut [u8], layout: Layout, stamps: &[u64], budget: u64) -> Ran
+pub fn run_steps(m: State, mem: &mut [u8], layout: Layout, stamps: &[u64], budget: u64) -> Ran
     requires { ⌜ length (now mem) ≡ 65536 ⌝ }
     requires { ⌜ timetable (now stamps) ≡ true ⌝ }
     ensures { λ r. ⌜ r ≡ stopped (run layout (now (stamps .entry)) budget (world m (now (mem .entry)))) ⌝ }
@@ -121,7 +126,7 @@ pub fn run_steps(m: Machine, mem: &mut [u8], layout: Layout, stamps: &[u64], bud
 {
     let mut registers = m.registers;
     let mut saved = m.saved;
-    let control = m.control();
+    let control = Control::of(m);
     let done = run_lent(
         control,
         &mut registers,
@@ -134,7 +139,7 @@ pub fn run_steps(m: Machine, mem: &mut [u8], layout: Layout, stamps: &[u64], bud
     let last = done.control;
     let answer = done.answer;
     Ran {
-        machine: last.machine(registers, saved),
+        machine: Machine(last.state(registers, saved)),
         answer: answer,
     }
 }

@@ -2,12 +2,12 @@ use mathlib.Core.Path.{sym, _∙_, ap}
 use native.Mathlib.Omega.{arith}
 use denote.Ref.{now}
 use lib.ListN.{length}
-use Rattle.machine.specs.State.{World}
-use Rattle.machine.specs.Step.{step}
-use Rattle.machine.specs.Lent.{joined}
-use Rattle.machine.proofs.Handed.{handed}
-use Rattle.machine.proofs.QuickRun.{leads-none}
-use Rattle.machine.proofs.LentLaws.{quick-handed}
+use Rattle.definition.specs.State.{World}
+use Rattle.definition.specs.Step.{step}
+use Rattle.act.specs.Control.{joined}
+use Rattle.interrupt.proofs.Handed.{handed}
+use Rattle.machine.proofs.FastRun.{leads-none}
+use Rattle.machine.proofs.LentLaws.{fast-handed}
 use borrow.Author.Needs.{needs}
 use Rattle.machine.proofs.lent.one_step.Statement.{statement}
 use Rattle.machine.proofs.lent.one_step.Tie as tie
@@ -15,34 +15,32 @@ use Rattle.machine.proofs.lent.one_step.Tie as tie
 first-place-requires : tie.Need-first-place-requires
 first-place-requires c κs = search needs
 
-quick-from-requires : tie.Need-quick-from-requires
-quick-from-requires c κs =
-    let p = c .before .before .before .before .before .pre in
-    let i = p .1 .1 in
-    (p .0, record { timed = p .1 .0; passed = c .before .before .first-place .ensures .passed; room = omega arith })
+fast-from-requires : tie.Need-fast-from-requires
+fast-from-requires c κs =
+    let p = c .before .before .before .before .before .pre in (p .1 .0, c .before .before .first-place .ensures (p .1 .0))
 
 clear-unheld-requires : tie.Need-clear-unheld-requires
 clear-unheld-requires c κs = search needs
 
-after-requires : tie.Need-after-requires
-after-requires c κs = search needs
+control-after-requires : tie.Need-control-after-requires
+control-after-requires c κs = search needs
 
 same-length : tie.Need-same-length
 same-length c = search needs
 
 returns : tie.Need-returns
 returns c =
-    let q = c .before .before .before .before .before .before .before .quick-from .ensures in
-    quick-handed _ _ _ _ _ _ _ _ _ _ (c .before .before .before .before .before .before .before .quick-from .result) (q .0) (c .before .before .before .if1 .taken) (q .1) (c .before .clear-unheld .ensures) (c .after .ensures)
+    let q = c .before .before .before .before .before .before .before .fast-from .ensures in
+    fast-handed _ _ _ _ _ _ _ _ _ _ (c .before .before .before .before .before .before .before .fast-from .result) (q .0) (c .before .before .before .if1 .taken) (q .1) (c .before .clear-unheld .ensures) (c .control-after .ensures)
 
 full-step-requires : tie.Need-full-step-requires
 full-step-requires c κs =
     let a = c .before .before .before .before .before .before .before .before .before .before .before .before .before .args in
     let p = c .before .before .before .before .before .before .before .before .before .before .before .before .before .pre in
     let i = p .1 .1 in
-    let z = leads-none _ _ _ _ _ (c .before .before .before .before .before .before .before .quick-from .ensures .0 (now (a .saved))) (let h = c .before .before .before .if1 .left in omega arith) in (
+    let z = leads-none _ _ _ _ _ (c .before .before .before .before .before .before .before .fast-from .ensures .0 (now (a .saved))) (let h = c .before .before .before .if1 .left in omega arith) in (
       ap (λ (v : World). length (v .memory)) z ∙ p .0,
-      record { timed = p .1 .0; passed = c .before .before .before .before .before .before .before .before .before .before .first-place .ensures .passed; room = omega arith },
+      record { timed = p .1 .0; passed = c .before .before .before .before .before .before .before .before .before .before .first-place .ensures (p .1 .0) .passed; room = omega arith },
     )
 
 same-length-2 : tie.Need-same-length-2
@@ -51,7 +49,7 @@ same-length-2 c = search needs
 returns-2 : tie.Need-returns-2
 returns-2 c =
     let a = c .before .before .before .before .before .before .before .before .before .before .before .before .before .before .before .before .args in
-    let z = leads-none _ _ _ _ _ (c .before .before .before .before .before .before .before .before .before .before .quick-from .ensures .0 (now (a .saved))) (let h = c .before .before .before .before .before .before .if1 .left in omega arith) in
+    let z = leads-none _ _ _ _ _ (c .before .before .before .before .before .before .before .before .before .before .fast-from .ensures .0 (now (a .saved))) (let h = c .before .before .before .before .before .before .if1 .left in omega arith) in
     handed
     (ap (λ (v : World). step (a .layout) (now (a .stamps)) (joined (v .machine .registers) (now (a .saved)) (a .control)) (v .memory)) (sym z))
     (c .before .before .full-step .ensures)
@@ -61,9 +59,9 @@ one-step-spec =
     tie.close
     (tie.spec
     first-place-requires
-    quick-from-requires
+    fast-from-requires
     clear-unheld-requires
-    after-requires
+    control-after-requires
     same-length
     returns
     full-step-requires

@@ -1,11 +1,12 @@
+use borrow.Author.Needs.{needs}
 use mathlib.Core.Path.{sym, _∙_, ap}
 use Prim.Native.Nat.{_-_}
 use native.Mathlib.Omega.{arith}
-use Rattle.machine.specs.declared.answer.End.the-variants.{Halted, Clock}
-use Rattle.machine.specs.State.{world}
-use Rattle.machine.specs.Run.{Stop}
-use Rattle.machine.specs.Calls.{stopped}
-use Rattle.machine.specs.Lent.{joined}
+use Rattle.definition.specs.declared.answer.End.the-variants.{Halted, Clock}
+use Rattle.definition.specs.State.{world}
+use Rattle.definition.specs.Run.{Stop}
+use Rattle.machine.specs.Answers.{stopped}
+use Rattle.act.specs.Control.{joined}
 use Rattle.machine.proofs.Turns.{Turning, ending-halted, ending-clock, turning-first, turning-ready, turning-passed, turning-next, turning-stops, turning-spent}
 use Rattle.machine.proofs.run.run_lent.Statement.{statement}
 use Rattle.machine.proofs.run.run_lent.Tie as tie
@@ -19,10 +20,10 @@ abbrev μ-loop : tie.MeasureT-loop
     budget - steps
 
 first-place-requires : tie.Need-first-place-requires Inv-loop μ-loop
-first-place-requires c κs = c .before .before .pre .1
+first-place-requires c κs = search needs
 
 loop-holds : tie.Need-loop-holds Inv-loop μ-loop
-loop-holds c = turning-first _ _ _ _ _ (c .before .before .before .pre .0) (c .first-place .ensures)
+loop-holds c = turning-first _ _ _ _ _ (c .before .before .before .pre .0) (c .first-place .ensures (c .before .before .before .pre .1))
 
 sub-left : tie.Need-sub-left Inv-loop μ-loop
 sub-left c = let i = c .before .before .before .before .loop .inv .within in omega arith
@@ -35,14 +36,12 @@ turn-requires c κs =
       l .inv .size,
       (
         turning-ready _ _ _ _ _ _ _ (l .inv) (c .before .before .before .before .before .before .before .before .before .before .before .pre .1) (c .before .before .before .before .if2 .left),
-        (c .before .before .before .before .before .before .if1 .left, c .before .before .before .before .if2 .left, omega arith),
+        (l .inv .placed, (c .before .before .before .before .before .before .if1 .left, c .before .before .before .before .if2 .left, omega arith)),
       ),
     )
 
 advance-requires : tie.Need-advance-requires Inv-loop μ-loop
-advance-requires c κs =
-    let l = c .before .before .before .before .before .before .before .before .before .before .before .loop in
-    (c .before .before .before .before .before .before .before .before .before .before .before .before .before .before .before .pre .1, turning-passed _ _ _ _ _ _ _ (l .inv) _ (c .before .before .before .turn .ensures .rises))
+advance-requires c κs = search needs
 
 add-steps : tie.Need-add-steps Inv-loop μ-loop
 add-steps c =
@@ -60,7 +59,9 @@ loop-less c =
 
 loop-again : tie.Need-loop-again Inv-loop μ-loop
 loop-again c =
-    turning-next _ _ _ _ _ _ _ (c .before .before .before .before .before .before .before .before .before .before .before .before .before .loop .inv) _ _ (c .before .before .before .before .before .turn .ensures) _ (c .before .advance .ensures)
+    let l = c .before .before .before .before .before .before .before .before .before .before .before .before .before .loop in
+    let a = c .before .advance .ensures (c .before .before .before .before .before .before .before .before .before .before .before .before .before .before .before .before .before .pre .1) (turning-passed _ _ _ _ _ _ _ (l .inv) _ (c .before .before .before .before .before .turn .ensures .rises)) in
+    turning-next _ _ _ _ _ _ _ (c .before .before .before .before .before .before .before .before .before .before .before .before .before .loop .inv) _ _ (c .before .before .before .before .before .turn .ensures) _ a
 
 same-length : tie.Need-same-length Inv-loop μ-loop
 same-length c = c .before .loop .inv .size ∙ sym (c .before .before .before .before .before .pre .0)

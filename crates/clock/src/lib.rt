@@ -1,0 +1,3 @@
+// The clock, the requests and the timetable.
+pub mod time;
+pub mod timetable;

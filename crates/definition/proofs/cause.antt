@@ -1,0 +1,3 @@
+pub mod JudgeLaws
+pub mod CauseLaws
+pub mod SideLaws

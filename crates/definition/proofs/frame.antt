@@ -1,0 +1,3 @@
+pub mod RegisterFrame
+pub mod TimeFrame
+pub mod FrameLaws

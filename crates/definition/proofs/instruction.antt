@@ -1,0 +1,3 @@
+pub mod InstructionLaws
+pub mod ActLaws
+pub mod MemoryLaws

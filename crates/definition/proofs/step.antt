@@ -1,0 +1,6 @@
+pub mod StepLaws
+pub mod CycleLaws
+pub mod TouchLaws
+pub mod GieLaws
+pub mod QuietLaws
+pub mod TwelveLaws

@@ -1,0 +1,12 @@
+pub mod Memory
+pub mod Registers
+pub mod Time
+pub mod State
+pub mod Outcome
+pub mod Judge
+pub mod Act
+pub mod Interrupt
+pub mod Step
+pub mod Run
+pub mod Calls
+pub mod Laws

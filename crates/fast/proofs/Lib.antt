@@ -1,0 +1,5 @@
+pub mod FastSets
+pub mod FastRows
+pub mod FastWords
+pub mod FastLaws
+pub mod FastSteps

@@ -1,0 +1,3 @@
+// Fast steps: common instructions of which no interrupt can come, on registers that are changed where they lie.
+pub mod effect;
+pub mod steps;

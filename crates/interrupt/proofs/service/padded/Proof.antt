@@ -1,0 +1,60 @@
+use Rattle.definition.specs.Interrupt.{padded}
+use native.Mathlib.Omega.{arith}
+use Rattle.definition.specs.Time.{pass, emptied}
+use Rattle.clock.proofs.PlaceLaws.{ready-later}
+use borrow.Author.Needs.{needs}
+use Rattle.interrupt.proofs.service.padded.Statement.{statement}
+use Rattle.interrupt.proofs.service.padded.Tie as tie
+
+age-of-requires : tie.Need-age-of-requires
+age-of-requires c κs = search needs
+
+sub-wait : tie.Need-sub-wait
+sub-wait c = search needs
+
+cast-wait : tie.Need-cast-wait
+cast-wait c = search needs
+
+wait-requires : tie.Need-wait-requires
+wait-requires c κs = search needs
+
+emptied-requires : tie.Need-emptied-requires
+emptied-requires c κs = search needs
+
+wait-requires-2 : tie.Need-wait-requires-2
+wait-requires-2 c κs = search needs
+
+cleared-registers-requires : tie.Need-cleared-registers-requires
+cleared-registers-requires c κs = search needs
+
+serving-machine-requires : tie.Need-serving-machine-requires
+serving-machine-requires c κs = search needs
+
+returns : tie.Need-returns
+unfolding padded emptied pass
+returns c = λ h.
+    let age = c .before .before .before .before .before .age-of .ensures in
+    let first = c .before .before .before .before .wait .ensures (ready-later h _ _ (omega arith) (omega arith)) in
+    let second = c .before .before .wait2 .ensures (rw (c .before .before .before .emptied .ensures, first) (ready-later h _ _ (omega arith) (omega arith))) in
+    simp (
+      c .serving-machine .ensures,
+      c .before .cleared-registers .ensures,
+      second,
+      c .before .before .before .emptied .ensures,
+      first,
+      c .before .before .before .before .before .age-of .ensures .0,
+    )
+
+pub padded-spec : {M : Type 1} → statement M
+padded-spec =
+    tie.close
+    (tie.spec
+    age-of-requires
+    sub-wait
+    cast-wait
+    wait-requires
+    emptied-requires
+    wait-requires-2
+    cleared-registers-requires
+    serving-machine-requires
+    returns)

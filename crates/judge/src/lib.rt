@@ -1,0 +1,2 @@
+// The eight causes of a reset.
+pub mod causes;

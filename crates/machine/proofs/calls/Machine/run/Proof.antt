@@ -1,0 +1,52 @@
+use mathlib.Core.Path.{sym, _∙_}
+use denote.Ref.{now}
+use Rattle.definition.specs.State.{world}
+use Rattle.definition.proofs.run.CallLaws.{taken-fit}
+use Rattle.machine.proofs.AnswerLaws.{run-refused, run-taken}
+use borrow.Author.Needs.{needs}
+use Rattle.machine.proofs.calls.Machine.run.Statement.{statement}
+use Rattle.machine.proofs.calls.Machine.run.Tie as tie
+
+judge-run-requires : tie.Need-judge-run-requires
+judge-run-requires c κs = search needs
+
+enum-known-refusal : tie.Need-enum-known-refusal
+enum-known-refusal c = search needs
+
+enum-told : tie.Need-enum-told
+enum-told c = search needs
+
+run-steps-requires : tie.Need-run-steps-requires
+run-steps-requires c κs =
+    let a = c .before .before .before .before .before .before .before .before .args in
+    let f = taken-fit (a .layout) (now (a .stamps)) (a .budget) (world (a .self .0) (now (a .mem))) (sym (c .before .before .before .judge-run .ensures) ∙ c .before .enum-told .given .1) in
+    (f .whole, f .timed)
+
+same-length : tie.Need-same-length
+same-length c = search needs
+
+returns : tie.Need-returns
+returns c =
+    let a = c .before .before .before .before .before .before .before .before .args in
+    run-refused (a .layout) (now (a .stamps)) (world (a .self .0) (now (a .mem))) (a .budget) _ (sym (c .before .before .before .judge-run .ensures) ∙ c .before .refusal .given .1)
+
+same-length-2 : tie.Need-same-length-2
+same-length-2 c = search needs
+
+returns-2 : tie.Need-returns-2
+returns-2 c =
+    let a = c .before .before .before .before .before .before .before .before .before .before .before .args in
+    run-taken (a .layout) (now (a .stamps)) (world (a .self .0) (now (a .mem))) (a .budget) (sym (c .before .before .before .before .before .before .judge-run .ensures) ∙ c .before .before .before .before .enum-told .given .1) _ _ (c .before .before .run-steps .ensures)
+
+pub run-spec : {M : Type 1} → statement M
+run-spec =
+    tie.close
+    (tie.spec
+    judge-run-requires
+    enum-known-refusal
+    enum-told
+    run-steps-requires
+    same-length
+    returns
+    same-length-2
+    returns-2)

@@ -1,9 +1,0 @@
-use Rattle.machine.proofs.FrameLaws.{frame-kept}
-use Rattle.machine.proofs.laws.frame_kept.Statement.{statement}
-use Rattle.machine.proofs.laws.frame_kept.Tie as tie
-
-returns : tie.Need-returns
-returns c = frame-kept
-
-pub frame-kept-spec : {M : Type 1} → statement M
-frame-kept-spec = tie.close (tie.spec returns)

@@ -1,9 +1,0 @@
-use Rattle.machine.proofs.CycleLaws.{step-cycles}
-use Rattle.machine.proofs.laws.step_cycles.Statement.{statement}
-use Rattle.machine.proofs.laws.step_cycles.Tie as tie
-
-returns : tie.Need-returns
-returns c = step-cycles
-
-pub step-cycles-spec : {M : Type 1} → statement M
-step-cycles-spec = tie.close (tie.spec returns)

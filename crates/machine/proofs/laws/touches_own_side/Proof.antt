@@ -1,9 +1,0 @@
-use Rattle.machine.proofs.SideLaws.{touches-own-side}
-use Rattle.machine.proofs.laws.touches_own_side.Statement.{statement}
-use Rattle.machine.proofs.laws.touches_own_side.Tie as tie
-
-returns : tie.Need-returns
-returns c = touches-own-side
-
-pub touches-own-side-spec : {M : Type 1} → statement M
-touches-own-side-spec = tie.close (tie.spec returns)

@@ -1,0 +1,2 @@
+// One whole step of the machine.
+pub mod step;
