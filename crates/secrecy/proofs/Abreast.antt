@@ -8,21 +8,21 @@ use Rattle.base.proofs.Tests.{cases, if-true, if-false}
 use Rattle.layout.specs.declared.sections.Layout.{Layout}
 use Rattle.layout.specs.Sections.{inside, outside}
 use Rattle.layout.specs.Rules.{accepted}
-use Rattle.machine.specs.declared.state.Time.{Time}
-use Rattle.machine.specs.declared.state.Visit.the-variants.{Free, Held}
-use Rattle.machine.specs.declared.answer.Outcome.{Outcome}
-use Rattle.machine.specs.declared.answer.Outcome.the-variants.{Ran, Plain, Padded, Chained, Back, Reset, Halted}
-use Rattle.machine.specs.Registers.{pc, cleared}
-use Rattle.machine.specs.Outcome.{isReset}
-use Rattle.machine.specs.Time.{pass, emptied}
-use Rattle.machine.specs.State.{World, vector, isHeld, resetAddress, start}
-use Rattle.machine.specs.Interrupt.{Step}
-use Rattle.machine.specs.Run.{worldAfter, stepOf}
-use Rattle.machine.specs.Laws.{SameOutside, SameView, SameStep, isResuming, SeenAlike, alike, OutsideLocal}
-use Rattle.machine.specs.Laws
-use Rattle.machine.proofs.StepLaws.{afterReti}
-use Rattle.machine.proofs.LocalLaws.{outside-local}
-use Rattle.machine.proofs.ViewLaws.{word-same}
+use Rattle.definition.specs.declared.state.Time.{Time}
+use Rattle.definition.specs.declared.state.Visit.the-variants.{Free, Held}
+use Rattle.definition.specs.declared.answer.Outcome.{Outcome}
+use Rattle.definition.specs.declared.answer.Outcome.the-variants.{Ran, Plain, Padded, Chained, Back, Reset, Halted}
+use Rattle.definition.specs.Registers.{pc, cleared}
+use Rattle.definition.specs.Outcome.{isReset}
+use Rattle.definition.specs.Time.{pass, emptied}
+use Rattle.definition.specs.State.{World, vector, isHeld, resetAddress, start}
+use Rattle.definition.specs.Interrupt.{Step}
+use Rattle.definition.specs.Run.{worldAfter, stepOf}
+use Rattle.definition.specs.Laws.{SameOutside, SameView, SameStep, isResuming, SeenAlike, alike, OutsideLocal}
+use Rattle.definition.specs.Laws
+use Rattle.definition.proofs.step.StepLaws.{afterReti}
+use Rattle.definition.proofs.separation.LocalLaws.{outside-local}
+use Rattle.definition.proofs.separation.ViewLaws.{word-same}
 use Rattle.secrecy.specs.Sighting.{View, resumes, outsideBytes, viewOf, sightingOf}
 use Rattle.secrecy.proofs.Visiting.{moveOf, sightingAt}
 use Rattle.secrecy.proofs.Ways.{vector-public, Steady, Goes, Fallen, Service, kept, fell, resuming, outside-step}

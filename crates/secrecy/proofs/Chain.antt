@@ -9,18 +9,18 @@ use borrow.Author.Tests.{leb-true}
 use Rattle.base.proofs.Tests.{cases, if-true, if-false}
 use Rattle.layout.specs.declared.sections.Layout.{Layout}
 use Rattle.layout.specs.Rules.{accepted}
-use Rattle.machine.specs.declared.answer.End.the-variants.{Spent}
-use Rattle.machine.specs.State.{World, world}
-use Rattle.machine.specs.Run.{lastClock, Going, goes, stops, ending, Stop, Move, worldAfter, stepOf, stopOr, runFrom, run, noneOr, moves}
-use Rattle.machine.specs.declared.verdict.Verdict.{Verdict}
-use Rattle.machine.specs.declared.verdict.Verdict.the-variants.{Taken as taken, Refused as refused}
-use Rattle.machine.specs.Calls.{Test, verdict, stepTests, runTests, stepCall, runCall}
-use Rattle.machine.specs.Laws.{HaltedStays, FrameKept, LengthKept, Sound}
-use Rattle.machine.proofs.CycleLaws.{halted-stays}
-use Rattle.machine.proofs.FrameLaws.{frame-kept}
-use Rattle.machine.proofs.TouchLaws.{length-kept}
-use Rattle.machine.proofs.CallLaws.{first-holds}
-use Rattle.machine.proofs.RunLaws.{Ends, running, haltedNow, lateNow, ends}
+use Rattle.definition.specs.declared.answer.End.the-variants.{Spent}
+use Rattle.definition.specs.State.{World, world}
+use Rattle.definition.specs.Run.{lastClock, Going, goes, stops, ending, Stop, Move, worldAfter, stepOf, stopOr, runFrom, run, noneOr, moves}
+use Rattle.definition.specs.declared.verdict.Verdict.{Verdict}
+use Rattle.definition.specs.declared.verdict.Verdict.the-variants.{Taken as taken, Refused as refused}
+use Rattle.definition.specs.Calls.{Test, verdict, stepTests, runTests, stepCall, runCall}
+use Rattle.definition.specs.Laws.{HaltedStays, FrameKept, LengthKept, Sound}
+use Rattle.definition.proofs.step.CycleLaws.{halted-stays}
+use Rattle.definition.proofs.frame.FrameLaws.{frame-kept}
+use Rattle.definition.proofs.step.TouchLaws.{length-kept}
+use Rattle.definition.proofs.run.CallLaws.{first-holds}
+use Rattle.definition.proofs.run.RunLaws.{Ends, running, haltedNow, lateNow, ends}
 use Rattle.secrecy.specs.Calls.{Call, stepping, movesWhen, made, leftBy, runOf, leftByAll}
 use Rattle.secrecy.specs.Calls
 

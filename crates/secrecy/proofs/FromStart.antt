@@ -15,21 +15,21 @@ use Rattle.layout.specs.Rules.{accepted}
 use Rattle.layout.proofs.LayoutLaws.{entry-section}
 use Rattle.layout.proofs.SectionLaws.{section-inside, inside-not-outside}
 use Rattle.alu.specs.Status.{gie}
-use Rattle.machine.specs.declared.state.Stamp.the-variants.{Never, At}
-use Rattle.machine.specs.declared.state.Visit.{Visit as HeldVisit}
-use Rattle.machine.specs.declared.state.Visit.the-variants.{Free, Held}
-use Rattle.machine.specs.Registers.{pc, sr}
-use Rattle.machine.specs.Time.{pass}
-use Rattle.machine.specs.State.{World, isHeld}
-use Rattle.machine.specs.declared.judge.Judged.the-variants.{Acts}
-use Rattle.machine.specs.Step.{executed}
-use Rattle.machine.specs.Run.{Move}
-use Rattle.machine.specs.declared.verdict.Verdict.{Verdict}
-use Rattle.machine.specs.declared.verdict.Verdict.the-variants.{Taken as taken, Refused as refused}
-use Rattle.machine.specs.Calls.{verdict, startTests, startAnswered, startCall}
-use Rattle.machine.specs.Laws.{TwelveInside, TwelveInReturn}
-use Rattle.machine.proofs.JudgeLaws.{acts-unheld}
-use Rattle.machine.proofs.TwelveLaws.{twelve-inside, twelve-in-return}
+use Rattle.definition.specs.declared.state.Stamp.the-variants.{Never, At}
+use Rattle.definition.specs.declared.state.Visit.{Visit as HeldVisit}
+use Rattle.definition.specs.declared.state.Visit.the-variants.{Free, Held}
+use Rattle.definition.specs.Registers.{pc, sr}
+use Rattle.definition.specs.Time.{pass}
+use Rattle.definition.specs.State.{World, isHeld}
+use Rattle.definition.specs.declared.judge.Judged.the-variants.{Acts}
+use Rattle.definition.specs.Step.{executed}
+use Rattle.definition.specs.Run.{Move}
+use Rattle.definition.specs.declared.verdict.Verdict.{Verdict}
+use Rattle.definition.specs.declared.verdict.Verdict.the-variants.{Taken as taken, Refused as refused}
+use Rattle.definition.specs.Calls.{verdict, startTests, startAnswered, startCall}
+use Rattle.definition.specs.Laws.{TwelveInside, TwelveInReturn}
+use Rattle.definition.proofs.cause.JudgeLaws.{acts-unheld}
+use Rattle.definition.proofs.step.TwelveLaws.{twelve-inside, twelve-in-return}
 use Rattle.secrecy.specs.Visit.{VisitEnd, ended, away, visits, fateAt}
 use Rattle.secrecy.specs.Secrecy.{startWorld}
 use Rattle.secrecy.proofs.Lasting.{owed, Lasts, lasting}

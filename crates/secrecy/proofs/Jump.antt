@@ -13,20 +13,20 @@ use Rattle.layout.specs.declared.sections.Layout.{Layout}
 use Rattle.layout.specs.Sections.{outside}
 use Rattle.layout.specs.Rules.{accepted}
 use Rattle.alu.specs.Status.{gie}
-use Rattle.machine.specs.declared.state.Stamp.the-variants.{Never}
-use Rattle.machine.specs.declared.state.Time.{Time}
-use Rattle.machine.specs.declared.state.Visit.the-variants.{Free}
-use Rattle.machine.specs.Registers.{pc, sr}
-use Rattle.machine.specs.Time.{pass, emptied}
-use Rattle.machine.specs.State.{World, isHeld}
-use Rattle.machine.specs.Interrupt.{Step}
-use Rattle.machine.specs.Run.{Move, worldAfter, stepOf}
-use Rattle.machine.specs.Laws.{PassAdds, SameOutside}
-use Rattle.machine.proofs.PassLaws.{pass-adds, pass-clock}
-use Rattle.machine.proofs.StepLaws.{judged}
-use Rattle.machine.proofs.ViewLaws.{same-trans}
+use Rattle.definition.specs.declared.state.Stamp.the-variants.{Never}
+use Rattle.definition.specs.declared.state.Time.{Time}
+use Rattle.definition.specs.declared.state.Visit.the-variants.{Free}
+use Rattle.definition.specs.Registers.{pc, sr}
+use Rattle.definition.specs.Time.{pass, emptied}
+use Rattle.definition.specs.State.{World, isHeld}
+use Rattle.definition.specs.Interrupt.{Step}
+use Rattle.definition.specs.Run.{Move, worldAfter, stepOf}
+use Rattle.definition.specs.Laws.{PassAdds, SameOutside}
+use Rattle.definition.proofs.time.PassLaws.{pass-adds, pass-clock}
+use Rattle.definition.proofs.step.StepLaws.{judged}
+use Rattle.definition.proofs.separation.ViewLaws.{same-trans}
 use Rattle.secrecy.specs.Sighting.{Sighting, sightings}
-use Rattle.secrecy.specs.Visit.{Way, leaving, ownReset, Fate, unended, ended, Visit, Phase, away, visiting, judgedCycles, closed, visits, fateAt}
+use Rattle.secrecy.specs.Visit.{Way, leaving, ownReset, Fate, unended, ended, Visit, Phase, away, visiting, judgedCycles, closed, visitsBy, visits, fateAt}
 use Rattle.secrecy.specs.Secrecy.{complete}
 use Rattle.secrecy.proofs.Chain.{endOf, moved, next, Chain, done, more}
 use Rattle.secrecy.proofs.Ways.{Steady, steady-next, BrokenInto, Goes, walked, struck, Fallen, Inner, failed, went, inner-step}
@@ -192,7 +192,7 @@ module _ (L : Layout) (fit : accepted L ≡ true) (stamps : List ℕ) (T : ℕ) 
   -- the run stops here
   module _ (n start len : ℕ) (w : World) (p : Phase) (a : Steady L (w .machine)) (b : In n start w p) where
     ends-open : (q : Phase) → Beyond T (t .clock) k (fateAt (visits L q []) 0)
-    unfolding visits Beyond
+    unfolding visitsBy Beyond
     ends-open away = tt
     ends-open (visiting s j) = tt
 

@@ -9,23 +9,23 @@ use Rattle.isa.specs.declared.instruction.Instruction.{Instruction}
 use Rattle.layout.specs.declared.sections.Layout.{Layout}
 use Rattle.layout.specs.Sections.{inside, outside}
 use Rattle.layout.specs.Rules.{accepted}
-use Rattle.machine.specs.declared.state.Time.{Time}
-use Rattle.machine.specs.declared.state.Visit.{Visit as HeldVisit}
-use Rattle.machine.specs.declared.state.Visit.the-variants.{Free, Held}
-use Rattle.machine.specs.declared.state.Machine.{Machine}
-use Rattle.machine.specs.declared.answer.Outcome.{Outcome}
-use Rattle.machine.specs.declared.answer.Outcome.the-variants.{Plain, Padded}
-use Rattle.machine.specs.Registers.{pc}
-use Rattle.machine.specs.Outcome.{isReset}
-use Rattle.machine.specs.Time.{pass, emptied}
-use Rattle.machine.specs.State.{World, isHeld}
-use Rattle.machine.specs.declared.judge.Judged.the-variants.{Acts}
-use Rattle.machine.specs.Interrupt.{Step, ageOf, plain, padded, chained, back, reset}
-use Rattle.machine.specs.Step.{executed}
-use Rattle.machine.specs.Run.{Move, stepOf}
-use Rattle.machine.proofs.StepLaws.{judged, next, bytes, next-clock, afterReturn, Way, resets, halts, runs, serves, pads, chains, returns, padsAgain, way}
+use Rattle.definition.specs.declared.state.Time.{Time}
+use Rattle.definition.specs.declared.state.Visit.{Visit as HeldVisit}
+use Rattle.definition.specs.declared.state.Visit.the-variants.{Free, Held}
+use Rattle.definition.specs.declared.state.State.{State}
+use Rattle.definition.specs.declared.answer.Outcome.{Outcome}
+use Rattle.definition.specs.declared.answer.Outcome.the-variants.{Plain, Padded}
+use Rattle.definition.specs.Registers.{pc}
+use Rattle.definition.specs.Outcome.{isReset}
+use Rattle.definition.specs.Time.{pass, emptied}
+use Rattle.definition.specs.State.{World, isHeld}
+use Rattle.definition.specs.declared.judge.Judged.the-variants.{Acts}
+use Rattle.definition.specs.Interrupt.{Step, ageOf, plain, padded, chained, back, reset}
+use Rattle.definition.specs.Step.{executed}
+use Rattle.definition.specs.Run.{Move, stepOf}
+use Rattle.definition.proofs.step.StepLaws.{judged, next, bytes, next-clock, afterReturn, Way, resets, halts, runs, serves, pads, chains, returns, padsAgain, way}
 use Rattle.secrecy.specs.Sighting.{beginsOutside}
-use Rattle.secrecy.specs.Visit.{Fate, unended, ended, Phase, away, visiting, judgedCycles, ownCycles, visits, fateAt}
+use Rattle.secrecy.specs.Visit.{Fate, unended, ended, Phase, away, visiting, judgedCycles, ownCycles, visitsBy, visits, fateAt}
 use Rattle.secrecy.proofs.Chain.{moved, next as after, Chain, done, more}
 use Rattle.secrecy.proofs.Ways.{Steady, steady-next, Service, kept, fell, resuming, Inner, failed, went, acting-inside, acting-held, inner-step, held-step}
 use Rattle.secrecy.proofs.Visiting.{phaseAt, held-drops, held-goes, leaves, Good, good-held, phase-held, phase-outside, phase-visiting, reset-visit, walk-visit, goes-good, goes-outcome}
@@ -41,15 +41,15 @@ abbrev After : ℕ → ℕ → Step → Type 0
 After c n s = s .machine .time .clock + owed (s .machine .visit) ≡ c + n
 
 module _ (L : Layout) (stamps : List ℕ) where
-  padded-adds : (stamp : ℕ) (x : Machine) (mem : List ℕ) → After (x .time .clock) 17 (padded L stamps stamp x mem)
+  padded-adds : (stamp : ℕ) (x : State) (mem : List ℕ) → After (x .time .clock) 17 (padded L stamps stamp x mem)
   unfolding padded ageOf pass emptied
   padded-adds stamp x mem = omega arith
 
-  padded-outcome : (stamp : ℕ) (x : Machine) (mem : List ℕ) → Padded ≡ padded L stamps stamp x mem .outcome
+  padded-outcome : (stamp : ℕ) (x : State) (mem : List ℕ) → Padded ≡ padded L stamps stamp x mem .outcome
   unfolding padded
   padded-outcome stamp x mem = refl
 
-  module _ (m : Machine) (mem : List ℕ) where
+  module _ (m : State) (mem : List ℕ) where
     abbrev own : ℕ
     own = judgedCycles (judged L m mem)
 
@@ -59,7 +59,7 @@ module _ (L : Layout) (stamps : List ℕ) where
     returned-clock previous age = refl
 
     -- a plain interrupt that does not reset
-    plain-adds : (x : Machine) (bytes : List ℕ) → isReset (plain L stamps x bytes .outcome) ≡ false
+    plain-adds : (x : State) (bytes : List ℕ) → isReset (plain L stamps x bytes .outcome) ≡ false
         → (plain L stamps x bytes .machine .time .clock ≡ x .time .clock + 6)
         × (plain L stamps x bytes .machine .visit ≡ x .visit) × (plain L stamps x bytes .outcome ≡ Plain)
     unfolding plain pass emptied reset
@@ -206,7 +206,7 @@ module _ (L : Layout) (stamps : List ℕ) (fit : accepted L ≡ true) where
 
   pub lasting : {w : World} {vs : List Move} (p : Phase) (start own : ℕ) → Chain L stamps w vs → Good L (w .machine) p
       → phaseAt L (w .machine) p ≡ visiting start own → Lasts (ahead w) own (meanwhile L vs) (fateAt (visits L p vs) 0)
-  unfolding visits Lasts
+  unfolding visitsBy Lasts
   lasting away start own done g e = tt
   lasting (visiting s k) start own done g e = tt
   lasting {w} p start own (more {vs = vs} r c) g e =

@@ -8,4 +8,3 @@ pub mod Together
 pub mod Secrecy
 pub mod Lasting
 pub mod FromStart
-pub mod Example

@@ -12,21 +12,21 @@ use Rattle.base.proofs.Tests.{cases, if-true}
 use Rattle.layout.specs.declared.sections.Layout.{Layout}
 use Rattle.layout.specs.Sections.{outside}
 use Rattle.layout.specs.Rules.{accepted}
-use Rattle.machine.specs.declared.state.Stamp.{Stamp}
-use Rattle.machine.specs.declared.state.Stamp.the-variants.{Never, At}
-use Rattle.machine.specs.declared.state.Time.{Time}
-use Rattle.machine.specs.declared.state.Visit.the-variants.{Free, Held}
-use Rattle.machine.specs.Registers.{pc}
-use Rattle.machine.specs.Time.{pass, emptied}
-use Rattle.machine.specs.State.{World, isHeld}
-use Rattle.machine.specs.Interrupt.{Step}
-use Rattle.machine.specs.Run.{Move, worldAfter}
-use Rattle.machine.specs.Laws.{PassAdds, SameOutside, SameView}
-use Rattle.machine.proofs.PassLaws.{pass-adds, pass-clock, pass-filled, slot-kept}
-use Rattle.machine.proofs.ViewLaws.{same-sym, same-trans}
+use Rattle.definition.specs.declared.state.Stamp.{Stamp}
+use Rattle.definition.specs.declared.state.Stamp.the-variants.{Never, At}
+use Rattle.definition.specs.declared.state.Time.{Time}
+use Rattle.definition.specs.declared.state.Visit.the-variants.{Free, Held}
+use Rattle.definition.specs.Registers.{pc}
+use Rattle.definition.specs.Time.{pass, emptied}
+use Rattle.definition.specs.State.{World, isHeld}
+use Rattle.definition.specs.Interrupt.{Step}
+use Rattle.definition.specs.Run.{Move, worldAfter}
+use Rattle.definition.specs.Laws.{PassAdds, SameOutside, SameView}
+use Rattle.definition.proofs.time.PassLaws.{pass-adds, pass-clock, pass-filled, slot-kept}
+use Rattle.definition.proofs.separation.ViewLaws.{same-sym, same-trans}
 use Rattle.secrecy.specs.Sighting.{Sighting, sightings}
 use Rattle.secrecy.specs.Visit.{Way, leaving, ownReset, Fate, unended, ended, Visit, Phase, away, visiting, visits, fateAt, endedBy}
-use Rattle.secrecy.specs.Secrecy.{EndedAlike, Premise, AgreeAsFar, complete, Agree}
+use Rattle.secrecy.specs.Secrecy.{Alike, BothEnded, Premise, AgreeAsFar, complete, Agree}
 use Rattle.secrecy.proofs.Chain.{endOf, Chain}
 use Rattle.secrecy.proofs.Ways.{BrokenInto}
 use Rattle.secrecy.proofs.Visiting.{Good, wayCycles, Least, phase-held, least, silent}
@@ -92,9 +92,18 @@ module _ (T : ℕ) where
 
 -- ---- the premise
 
+-- two fates are ends alike
+abbrev EndedAlike : Fate → Fate → Type 0
+EndedAlike f h = BothEnded Alike f h
+
 -- an end with these own cycles, in this way, with these registers; the clock is not asked
 abbrev EndsAs : ℕ → Way → List ℕ → Fate → Type 0
 EndsAs own way registers f = EndedAlike (endAt 0 own way registers) f
+
+clock-unasked : (c own : ℕ) (way : Way) (registers : List ℕ) (f : Fate) → EndedAlike (endAt c own way registers) f
+    → EndsAs own way registers f
+clock-unasked c own way registers unended x = x
+clock-unasked c own way registers (ended e) x = x
 
 ended-sym : (f h : Fate) → EndedAlike f h → EndedAlike h f
 ended-sym unended h x = absurd x
@@ -114,13 +123,15 @@ any-second false b h = rw h
 module _ (T : ℕ) (xs ys : List Visit) (premise : Premise T xs ys) (c own : ℕ) (way : Way) (registers : List ℕ) (h : c ≤ T) where
   pub first-alike : fateAt xs 0 ≡ endAt c own way registers → EndsAs own way registers (fateAt ys 0)
   first-alike e =
-      subst (λ (z : Fate). EndedAlike z (fateAt ys 0)) e
-      (premise 0 (any-first _ _ (ap (endedBy T) e ∙ le-leb c T h)))
+      clock-unasked c own way registers (fateAt ys 0)
+      (subst (λ (z : Fate). EndedAlike z (fateAt ys 0)) e
+      (premise 0 (any-first _ _ (ap (endedBy T) e ∙ le-leb c T h))))
 
   pub second-alike : fateAt ys 0 ≡ endAt c own way registers → EndsAs own way registers (fateAt xs 0)
   second-alike e =
-      subst (λ (z : Fate). EndedAlike z (fateAt xs 0)) e
-      (ended-sym (fateAt xs 0) (fateAt ys 0) (premise 0 (any-second _ _ (ap (endedBy T) e ∙ le-leb c T h))))
+      clock-unasked c own way registers (fateAt xs 0)
+      (subst (λ (z : Fate). EndedAlike z (fateAt xs 0)) e
+      (ended-sym (fateAt xs 0) (fateAt ys 0) (premise 0 (any-second _ _ (ap (endedBy T) e ∙ le-leb c T h)))))
 
 pub premise-tail : (T : ℕ) {xs ys : List Visit} (x y : Visit) {xs′ ys′ : List Visit} → xs ≡ x ∷ xs′ → ys ≡ y ∷ ys′
     → Premise T xs ys → Premise T xs′ ys′

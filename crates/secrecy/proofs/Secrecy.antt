@@ -10,18 +10,18 @@ use Rattle.base.proofs.Tests.{cases}
 use Rattle.layout.specs.declared.sections.Layout.{Layout}
 use Rattle.layout.specs.Sections.{inside}
 use Rattle.layout.specs.Rules.{accepted}
-use Rattle.machine.specs.declared.state.Visit.the-variants.{Free}
-use Rattle.machine.specs.declared.answer.StartAnswer.the-variants.{Made, Refused}
-use Rattle.machine.specs.State.{World, world, start}
-use Rattle.machine.specs.declared.verdict.Verdict.{Verdict}
-use Rattle.machine.specs.declared.verdict.Verdict.the-variants.{Taken as taken, Refused as refused}
-use Rattle.machine.specs.Calls.{verdict, startTests, startCall}
-use Rattle.machine.specs.Laws.{SameOutside}
+use Rattle.definition.specs.declared.state.Visit.the-variants.{Free}
+use Rattle.definition.specs.declared.answer.StartAnswer.the-variants.{Made, Refused}
+use Rattle.definition.specs.State.{World, world, start}
+use Rattle.definition.specs.declared.verdict.Verdict.{Verdict}
+use Rattle.definition.specs.declared.verdict.Verdict.the-variants.{Taken as taken, Refused as refused}
+use Rattle.definition.specs.Calls.{verdict, startTests, startCall}
+use Rattle.definition.specs.Laws.{SameOutside}
 use Rattle.secrecy.specs.Calls.{runOf, leftByAll}
 use Rattle.secrecy.specs.Sighting.{sightings}
 use Rattle.secrecy.specs.Visit.{away}
-use Rattle.secrecy.specs.Secrecy.{startWorld, Agree, Secrecy}
-use Rattle.machine.proofs.CallLaws.{first-holds}
+use Rattle.secrecy.specs.Secrecy.{startWorld, Agree, SecrecyUnder, Secrecy}
+use Rattle.definition.proofs.run.CallLaws.{first-holds}
 use Rattle.secrecy.proofs.Chain.{run-chain, left-by-all, none-run}
 use Rattle.secrecy.proofs.Ways.{vector-free, start-steady}
 use Rattle.secrecy.proofs.Visiting.{Good, good-away}
@@ -67,7 +67,7 @@ start-in-step L memA memB fit s =
 -- ---- the theorem
 
 pub secrecy : Secrecy
-unfolding Secrecy
+unfolding Secrecy SecrecyUnder
 secrecy L stamps memA memB callsA callsB T ea eb same premise =
     cases (accepted L) yes-accepted not-accepted
   where

@@ -13,18 +13,18 @@ use Rattle.layout.specs.declared.sections.Layout.{Layout}
 use Rattle.layout.specs.Sections.{outside, entry}
 use Rattle.layout.specs.Rules.{accepted}
 use Rattle.alu.specs.Status.{gie}
-use Rattle.machine.specs.declared.state.Time.{Time}
-use Rattle.machine.specs.declared.state.Visit.{Visit as HeldVisit}
-use Rattle.machine.specs.declared.state.Visit.the-variants.{Free, Held}
-use Rattle.machine.specs.Registers.{pc, sr}
-use Rattle.machine.specs.Outcome.{isReset}
-use Rattle.machine.specs.State.{World, isHeld}
-use Rattle.machine.specs.Interrupt.{Step}
-use Rattle.machine.specs.Run.{Move, worldAfter, stepOf}
-use Rattle.machine.specs.Laws.{SameOutside, SameView}
-use Rattle.machine.proofs.PassLaws.{pass-zero}
-use Rattle.machine.proofs.StepLaws.{afterReti}
-use Rattle.machine.proofs.ViewLaws.{same-refl, same-sym}
+use Rattle.definition.specs.declared.state.Time.{Time}
+use Rattle.definition.specs.declared.state.Visit.{Visit as HeldVisit}
+use Rattle.definition.specs.declared.state.Visit.the-variants.{Free, Held}
+use Rattle.definition.specs.Registers.{pc, sr}
+use Rattle.definition.specs.Outcome.{isReset}
+use Rattle.definition.specs.State.{World, isHeld}
+use Rattle.definition.specs.Interrupt.{Step}
+use Rattle.definition.specs.Run.{Move, worldAfter, stepOf}
+use Rattle.definition.specs.Laws.{SameOutside, SameView}
+use Rattle.definition.proofs.time.PassLaws.{pass-zero}
+use Rattle.definition.proofs.step.StepLaws.{afterReti}
+use Rattle.definition.proofs.separation.ViewLaws.{same-refl, same-sym}
 use Rattle.secrecy.specs.Sighting.{Sighting, sightings}
 use Rattle.secrecy.specs.Visit.{unended, Phase, away, visiting, left, visits}
 use Rattle.secrecy.specs.Secrecy.{Premise, complete, Agree}

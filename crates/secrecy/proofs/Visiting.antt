@@ -11,20 +11,20 @@ use Rattle.base.proofs.Tests.{every, if-true, if-false, choose}
 use Rattle.layout.specs.declared.sections.Layout.{Layout}
 use Rattle.layout.specs.Sections.{inside, outside, entry}
 use Rattle.layout.specs.Rules.{accepted}
-use Rattle.machine.specs.declared.state.Time.{Time}
-use Rattle.machine.specs.declared.state.Visit.{Visit as HeldVisit}
-use Rattle.machine.specs.declared.state.Visit.the-variants.{Free, Held}
-use Rattle.machine.specs.declared.state.Machine.{Machine}
-use Rattle.machine.specs.Registers.{pc}
-use Rattle.machine.specs.Outcome.{isReset}
-use Rattle.machine.specs.State.{World, isHeld}
-use Rattle.machine.specs.Interrupt.{Step}
-use Rattle.machine.specs.Run.{Move, worldAfter, stepOf}
-use Rattle.machine.specs.Laws.{StepCycles}
-use Rattle.machine.proofs.CycleLaws.{step-cycles}
-use Rattle.machine.proofs.StepLaws.{judged}
+use Rattle.definition.specs.declared.state.Time.{Time}
+use Rattle.definition.specs.declared.state.Visit.{Visit as HeldVisit}
+use Rattle.definition.specs.declared.state.Visit.the-variants.{Free, Held}
+use Rattle.definition.specs.declared.state.State.{State}
+use Rattle.definition.specs.Registers.{pc}
+use Rattle.definition.specs.Outcome.{isReset}
+use Rattle.definition.specs.State.{World, isHeld}
+use Rattle.definition.specs.Interrupt.{Step}
+use Rattle.definition.specs.Run.{Move, worldAfter, stepOf}
+use Rattle.definition.specs.Laws.{StepCycles}
+use Rattle.definition.proofs.step.CycleLaws.{step-cycles}
+use Rattle.definition.proofs.step.StepLaws.{judged}
 use Rattle.secrecy.specs.Sighting.{Sighting, viewOf, sightingOf, beginsOutside, sightings}
-use Rattle.secrecy.specs.Visit.{Way, leaving, ownReset, Fate, unended, ended, Visit, Phase, away, visiting, judgedCycles, ownCycles, entered, left, closed, longer, visits, fateAt}
+use Rattle.secrecy.specs.Visit.{Way, leaving, ownReset, Fate, unended, ended, Visit, Phase, away, visiting, judgedCycles, ownCycles, entered, left, closed, longer, visitsBy, visits, fateAt}
 use Rattle.secrecy.proofs.Chain.{moved, Chain, done, more}
 use Rattle.secrecy.proofs.Ways.{Steady, steady-next, Goes, walked, struck, Service, kept, fell, resuming, Inner, failed, went, inner-step, held-step}
 
@@ -64,7 +64,7 @@ module _ (L : Layout) (T : ℕ) (v : Move) (vs : List Move) where
 -- ---- the visits of a first step
 
 -- the phase that a step begins in: a step that enters the module starts a visit
-unfoldable pub phaseAt : Layout → Machine → Phase → Phase
+unfoldable pub phaseAt : Layout → State → Phase → Phase
 phaseAt L m p =
     if isHeld (m .visit) then p else if outside L (pc (m .registers)) then p
     else if all (eqb (pc (m .registers)) (entry L) ∷ not (inside L (m .previous)) ∷ []) then visiting (m .time .clock) 0 else p
@@ -79,17 +79,17 @@ resetEnd L p v = closed p (v .after .machine .time .clock) (ownCycles L v) ownRe
 module _ (L : Layout) (p : Phase) (v : Move) (vs : List Move) where
   pub held-drops : isHeld (v .before .machine .visit) ≡ true → isReset (v .after .outcome) ≡ true
       → visits L p (v ∷ vs) ≡ left p ++ visits L away vs
-  unfolding visits
+  unfolding visitsBy
   held-drops h r = if-true _ _ _ h ∙ if-true _ _ _ r
 
   pub held-goes : isHeld (v .before .machine .visit) ≡ true → isReset (v .after .outcome) ≡ false
       → visits L p (v ∷ vs) ≡ visits L p vs
-  unfolding visits
+  unfolding visitsBy
   held-goes h r = if-true _ _ _ h ∙ if-false _ _ _ r
 
   pub leaves : isHeld (v .before .machine .visit) ≡ false → beginsOutside L v ≡ true
       → visits L p (v ∷ vs) ≡ leftEnd p v ++ visits L away vs
-  unfolding visits
+  unfolding visitsBy
   leaves h o = if-false _ _ _ h ∙ if-true _ _ _ o
 
   entered-at : isHeld (v .before .machine .visit) ≡ false → beginsOutside L v ≡ false
@@ -99,14 +99,14 @@ module _ (L : Layout) (p : Phase) (v : Move) (vs : List Move) where
 
   pub resets-own : isHeld (v .before .machine .visit) ≡ false → beginsOutside L v ≡ false → isReset (v .after .outcome) ≡ true
       → visits L p (v ∷ vs) ≡ resetEnd L (phaseAt L (v .before .machine) p) v ++ visits L away vs
-  unfolding visits
+  unfolding visitsBy
   resets-own h o r =
       if-false _ _ _ h ∙ if-false _ _ _ o ∙ if-true _ _ _ r
       ∙ ap (λ (q : Phase). resetEnd L q v ++ visits L away vs) (sym (entered-at h o))
 
   pub inner-goes : isHeld (v .before .machine .visit) ≡ false → beginsOutside L v ≡ false → isReset (v .after .outcome) ≡ false
       → visits L p (v ∷ vs) ≡ visits L (longer (phaseAt L (v .before .machine) p) (ownCycles L v)) vs
-  unfolding visits
+  unfolding visitsBy
   inner-goes h o r =
       if-false _ _ _ h ∙ if-false _ _ _ o ∙ if-false _ _ _ r
       ∙ ap (λ (q : Phase). visits L (longer q (ownCycles L v)) vs) (sym (entered-at h o))
@@ -120,11 +120,11 @@ InPhase L Free previous (visiting start own) = inside L previous ≡ true
 InPhase L (Held q age) previous away = ⊥
 InPhase L (Held q age) previous (visiting start own) = Unit {0}
 
-pub record Good (L : Layout) (m : Machine) (p : Phase) : Type 0 where
+pub record Good (L : Layout) (m : State) (p : Phase) : Type 0 where
   pub steady : Steady L m
   pub phase : InPhase L (m .visit) (m .previous) p
 
-module _ (L : Layout) (m : Machine) (steady : Steady L m) where
+module _ (L : Layout) (m : State) (steady : Steady L m) where
   pub good-away : m .visit ≡ Free → inside L (m .previous) ≡ false → Good L m away
   unfolding InPhase
   good-away h n = record { steady = steady; phase = subst (λ (v : HeldVisit). InPhase L v (m .previous) away) (sym h) n }
@@ -140,13 +140,13 @@ module _ (L : Layout) (m : Machine) (steady : Steady L m) where
       record { steady = steady; phase = subst (λ (v : HeldVisit). InPhase L v (m .previous) (visiting start own)) (sym h) n }
 
 -- no visit goes on: the previous address is not inside
-pub away-previous : (L : Layout) (m : Machine) (p : Phase) → Good L m p → m .visit ≡ Free → p ≡ away
+pub away-previous : (L : Layout) (m : State) (p : Phase) → Good L m p → m .visit ≡ Free → p ≡ away
     → inside L (m .previous) ≡ false
 unfolding InPhase
 away-previous L m p g h e =
     subst (λ (v : HeldVisit). InPhase L v (m .previous) away) h (subst (InPhase L (m .visit) (m .previous)) e (g .phase))
 
-module _ (L : Layout) (m : Machine) where
+module _ (L : Layout) (m : State) where
   pub phase-held : (p : Phase) → isHeld (m .visit) ≡ true → phaseAt L m p ≡ p
   unfolding phaseAt
   phase-held p h = if-true _ _ _ h
@@ -186,6 +186,10 @@ module _ (L : Layout) (m : Machine) where
 
 -- ---- the visits of a step in code or data, none being held, by its own cycles
 
+-- the own cycles of a step are those of what it is judged, whatever it waits
+own-judged : (L : Layout) (w : World) (s : Step) → ownCycles L (moveOf w s) ≡ judgedCycles (judged L (w .machine) (w .memory))
+own-judged L w s = refl
+
 module _ (L : Layout) (w : World) (s : Step) (p : Phase) (vs : List Move) (start own n : ℕ)
     (h : w .machine .visit ≡ Free) (o : outside L (pc (w .machine .registers)) ≡ false)
     (e : phaseAt L (w .machine) p ≡ visiting start own) (f : judgedCycles (judged L (w .machine) (w .memory)) ≡ n) where
@@ -199,13 +203,14 @@ module _ (L : Layout) (w : World) (s : Step) (p : Phase) (vs : List Move) (start
       resets-own L p (moveOf w s) vs (ap isHeld h) o r
       ∙ ap (λ (q : Phase). resetEnd L q (moveOf w s) ++ visits L away vs) e
       ∙ ap
-      (λ (x : ℕ). closed (visiting start own) (s .machine .time .clock) x ownReset (s .machine .registers) ++ visits L away vs) f
+      (λ (x : ℕ). closed (visiting start own) (s .machine .time .clock) x ownReset (s .machine .registers) ++ visits L away vs)
+      (own-judged L w s ∙ f)
 
   pub walk-visit : isReset (s .outcome) ≡ false → visits L p (moveOf w s ∷ vs) ≡ visits L (visiting start (own + n)) vs
   walk-visit r =
       inner-goes L p (moveOf w s) vs (ap isHeld h) o r
       ∙ ap (λ (q : Phase). visits L (longer q (ownCycles L (moveOf w s))) vs) e
-      ∙ ap (λ (x : ℕ). visits L (visiting start (own + x)) vs) f
+      ∙ ap (λ (x : ℕ). visits L (visiting start (own + x)) vs) (own-judged L w s ∙ f)
 
 -- ---- the least own cycles
 
@@ -288,7 +293,7 @@ module _ (L : Layout) (stamps : List ℕ) where
     -- a visit ends with no fewer own cycles than it has
     pub least : {w : World} {vs : List Move} (p : Phase) (start own : ℕ) → Chain L stamps w vs → Good L (w .machine) p
         → phaseAt L (w .machine) p ≡ visiting start own → Least own (fateAt (visits L p vs) 0)
-    unfolding visits Least
+    unfolding visitsBy Least
     least away start own done g e = tt
     least (visiting s k) start own done g e = tt
     least {w} p start own (more {vs = vs} r c) g e =

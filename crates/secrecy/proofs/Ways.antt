@@ -17,30 +17,30 @@ use Rattle.layout.proofs.SectionLaws.{section-outside, outside-not-inside}
 use Rattle.layout.proofs.LayoutLaws.{vector-outside}
 use Rattle.layout.proofs.AccessLaws.{entered-at-entry, data-not-executed}
 use Rattle.alu.specs.Status.{gie}
-use Rattle.machine.specs.declared.state.Stamp.the-variants.{Never, At}
-use Rattle.machine.specs.declared.state.Time.{Time}
-use Rattle.machine.specs.declared.state.Visit.the-variants.{Free, Held}
-use Rattle.machine.specs.declared.state.Machine.{Machine}
-use Rattle.machine.specs.declared.answer.Cause.{Cause}
-use Rattle.machine.specs.declared.answer.Outcome.{Outcome}
-use Rattle.machine.specs.Registers.{pc, sr, cleared}
-use Rattle.machine.specs.Outcome.{isReset}
-use Rattle.machine.specs.Time.{pass, emptied}
-use Rattle.machine.specs.State.{vector, isHeld, resetAddress, framed, start}
-use Rattle.machine.specs.declared.judge.Judged.the-variants.{Acts}
-use Rattle.machine.specs.Interrupt.{Step, gives, ageOf, due, reset, plain, padded, chained, back}
-use Rattle.machine.specs.Step.{executed, step}
-use Rattle.machine.specs.Laws.{FramedAtStart, FrameKept, Quiet, QuietAtStart, QuietKept, PaddedByStamp, SameOutside, isResuming, Confined, InsideConfined}
-use Rattle.machine.proofs.PassLaws.{pass-clock, pass-filled}
-use Rattle.machine.proofs.JudgeLaws.{acts-executable, acts-unheld}
-use Rattle.machine.proofs.InstructionLaws.{cycles-range}
-use Rattle.machine.proofs.StepLaws.{judged, next, afterReti, afterReturn, Way, resets, halts, runs, serves, pads, chains, returns, padsAgain, way, runs-inside}
-use Rattle.machine.proofs.GieLaws.{due-at}
-use Rattle.machine.proofs.QuietLaws.{quiet-at-start, quiet-kept}
-use Rattle.machine.proofs.FrameLaws.{framed-at-start, frame-kept, held-framed}
-use Rattle.machine.proofs.TwelveLaws.{padded-by-stamp}
-use Rattle.machine.proofs.ConfinedLaws.{inside-confined}
-use Rattle.machine.proofs.ViewLaws.{same-refl}
+use Rattle.definition.specs.declared.state.Stamp.the-variants.{Never, At}
+use Rattle.definition.specs.declared.state.Time.{Time}
+use Rattle.definition.specs.declared.state.Visit.the-variants.{Free, Held}
+use Rattle.definition.specs.declared.state.State.{State}
+use Rattle.definition.specs.declared.answer.Cause.{Cause}
+use Rattle.definition.specs.declared.answer.Outcome.{Outcome}
+use Rattle.definition.specs.Registers.{pc, sr, cleared}
+use Rattle.definition.specs.Outcome.{isReset}
+use Rattle.definition.specs.Time.{pass, emptied}
+use Rattle.definition.specs.State.{vector, isHeld, resetAddress, framed, start}
+use Rattle.definition.specs.declared.judge.Judged.the-variants.{Acts}
+use Rattle.definition.specs.Interrupt.{Step, gives, ageOf, due, reset, plain, padded, chained, back}
+use Rattle.definition.specs.Step.{executed, step}
+use Rattle.definition.specs.Laws.{FramedAtStart, FrameKept, Quiet, QuietAtStart, QuietKept, PaddedByStamp, SameOutside, isResuming, Confined, InsideConfined}
+use Rattle.definition.proofs.time.PassLaws.{pass-clock, pass-filled}
+use Rattle.definition.proofs.cause.JudgeLaws.{acts-executable, acts-unheld}
+use Rattle.definition.proofs.instruction.InstructionLaws.{cycles-range}
+use Rattle.definition.proofs.step.StepLaws.{judged, next, afterReti, afterReturn, Way, resets, halts, runs, serves, pads, chains, returns, padsAgain, way, runs-inside}
+use Rattle.definition.proofs.step.GieLaws.{due-at}
+use Rattle.definition.proofs.step.QuietLaws.{quiet-at-start, quiet-kept}
+use Rattle.definition.proofs.frame.FrameLaws.{framed-at-start, frame-kept, held-framed}
+use Rattle.definition.proofs.step.TwelveLaws.{padded-by-stamp}
+use Rattle.definition.proofs.separation.ConfinedLaws.{inside-confined}
+use Rattle.definition.proofs.separation.ViewLaws.{same-refl}
 use Rattle.secrecy.specs.Visit.{judgedCycles}
 
 -- the reset vector is in no section
@@ -53,7 +53,7 @@ vector-free L fit = outside-not-inside L vector (vector-public L fit)
 -- ---- what every machine of a run is
 
 -- framed, and where GIE is set the slot is empty
-pub record Steady (L : Layout) (m : Machine) : Type 0 where
+pub record Steady (L : Layout) (m : State) : Type 0 where
   pub frame : framed L m ≡ true
   pub quiet : m .halted ≡ false → Quiet m
 
@@ -61,7 +61,7 @@ pub start-steady : (L : Layout) (mem : List ℕ) → Steady L (start mem)
 unfolding FramedAtStart QuietAtStart
 start-steady L mem = record { frame = framed-at-start L mem; quiet = λ r. quiet-at-start mem }
 
-pub steady-next : (L : Layout) (stamps : List ℕ) (m : Machine) (mem : List ℕ) → accepted L ≡ true → m .halted ≡ false → Steady L m
+pub steady-next : (L : Layout) (stamps : List ℕ) (m : State) (mem : List ℕ) → accepted L ≡ true → m .halted ≡ false → Steady L m
     → Steady L (step L stamps m mem .machine)
 unfolding FrameKept QuietKept
 steady-next L stamps m mem fit r s =
@@ -100,7 +100,7 @@ module _ (L : Layout) (stamps : List ℕ) where
     struck : (stamp : ℕ) → g ≡ true → BrokenInto t mem n stamp s → Goes t g mem n s
 
   -- the padded check of a machine in the module, n cycles on from t
-  module _ (t : Time) (g : Bool) (mem : List ℕ) (n : ℕ) (x : Machine) (mem′ : List ℕ) (short : n ≤ 6)
+  module _ (t : Time) (g : Bool) (mem : List ℕ) (n : ℕ) (x : State) (mem′ : List ℕ) (short : n ≤ 6)
       (empty : g ≡ true → t .slot ≡ Never) (time : x .time ≡ pass stamps n t)
       (enabled : gie (sr (x .registers)) ≡ g) (memory : SameOutside L mem mem′) where
     check-walks : (o : Outcome) → isReset o ≡ false → x .visit ≡ Free → x .halted ≡ false → inside L (x .previous) ≡ true
@@ -134,7 +134,7 @@ module _ (L : Layout) (stamps : List ℕ) where
   -- ---- the ways
 
   -- a reset, whatever its cause, that no instruction went before
-  pub record Fallen (m : Machine) (mem : List ℕ) (s : Step) : Type 0 where
+  pub record Fallen (m : State) (mem : List ℕ) (s : Step) : Type 0 where
     pub registers : s .machine .registers ≡ cleared (resetAddress mem)
     pub previous : inside L (s .machine .previous) ≡ false
     pub time : s .machine .time ≡ emptied (pass stamps 4 (m .time))
@@ -145,7 +145,7 @@ module _ (L : Layout) (stamps : List ℕ) where
 
   -- a step that begins outside, or while a visit is held: the visit stays as it is, a reset drops it, or RETI resumes the module,
   -- where the return padding goes on from the time after RETI's cycles
-  pub data Service (m : Machine) (mem : List ℕ) (s : Step) : Type 0 where
+  pub data Service (m : State) (mem : List ℕ) (s : Step) : Type 0 where
     kept : s .machine .visit ≡ m .visit → inside L (s .machine .previous) ≡ false → isReset (s .outcome) ≡ false
         → isResuming (s .outcome) ≡ false → Service m mem s
     fell : s .machine .visit ≡ Free → inside L (s .machine .previous) ≡ false → isReset (s .outcome) ≡ true
@@ -154,12 +154,12 @@ module _ (L : Layout) (stamps : List ℕ) where
         → afterReti stamps m .slot ≡ Never → Goes (afterReti stamps m) true mem age s → Service m mem s
 
   -- a step in code or data, none being held: a reset, or an instruction inside
-  pub data Inner (m : Machine) (mem : List ℕ) (s : Step) : Type 0 where
+  pub data Inner (m : State) (mem : List ℕ) (s : Step) : Type 0 where
     failed : judgedCycles (judged L m mem) ≡ 4 → Fallen m mem s → Inner m mem s
     went : (n : ℕ) → judgedCycles (judged L m mem) ≡ n → Goes (m .time) (gie (sr (m .registers))) mem n s → Inner m mem s
 
 -- the time after RETI's cycles is one of the time before them
-pub return-time : (stamps : List ℕ) (m n : Machine) → m .time ≡ n .time → afterReti stamps m ≡ afterReti stamps n
+pub return-time : (stamps : List ℕ) (m n : State) → m .time ≡ n .time → afterReti stamps m ≡ afterReti stamps n
 return-time stamps m n e = ap (pass stamps (cyclesOf Reti)) e
 
 -- ---- where an instruction acts
@@ -169,7 +169,7 @@ neither Outside o c = cc
 neither Code o c = cc
 neither Data o c = refl
 
-module _ (L : Layout) (fit : accepted L ≡ true) (stamps : List ℕ) (m : Machine) (mem : List ℕ) where
+module _ (L : Layout) (fit : accepted L ≡ true) (stamps : List ℕ) (m : State) (mem : List ℕ) where
   -- in code or data only code
   pub acting-inside : (i : Instruction) → outside L (pc (m .registers)) ≡ false → judged L m mem ≡ Acts i
       → inside L (pc (m .registers)) ≡ true
@@ -222,7 +222,7 @@ module _ (L : Layout) (fit : accepted L ≡ true) (stamps : List ℕ) (m : Machi
   falls none s (returns p a r e d) = absurd (none Reti (r .acting))
   falls none s (padsAgain p a u r e d) = absurd (none Reti (r .acting))
 
-  plain-serves : (x : Machine) (mem′ : List ℕ) → x .visit ≡ m .visit → Service L stamps m mem (plain L stamps x mem′)
+  plain-serves : (x : State) (mem′ : List ℕ) → x .visit ≡ m .visit → Service L stamps m mem (plain L stamps x mem′)
   unfolding plain reset
   plain-serves x mem′ h =
       choose (Service L stamps m mem) _ (λ e. kept h (vector-free L fit) refl refl) (λ e. fell refl (vector-free L fit) refl refl)

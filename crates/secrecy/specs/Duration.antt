@@ -11,24 +11,24 @@ use Rattle.isa.specs.Cycles.{cyclesOf}
 use Rattle.layout.specs.declared.sections.Layout.{Layout}
 use Rattle.layout.specs.Sections.{entry, inside}
 use Rattle.alu.specs.Status.{gie}
-use Rattle.machine.specs.declared.state.Stamp.the-variants.{Never, At}
-use Rattle.machine.specs.declared.state.Time.{Time}
-use Rattle.machine.specs.declared.state.Visit.the-variants.{Held}
-use Rattle.machine.specs.declared.state.Machine.{Machine}
-use Rattle.machine.specs.declared.answer.Outcome.{Outcome}
-use Rattle.machine.specs.declared.answer.Outcome.the-variants.{Ran, Plain, Padded, Chained, Back, Reset, Halted}
-use Rattle.machine.specs.declared.answer.StartAnswer.the-variants.{Made}
-use Rattle.machine.specs.Registers.{pc, sr}
-use Rattle.machine.specs.Outcome.{isReset}
-use Rattle.machine.specs.Time.{pass}
-use Rattle.machine.specs.State.{World, isHeld}
-use Rattle.machine.specs.declared.judge.Judged.{Judged}
-use Rattle.machine.specs.declared.judge.Judged.the-variants.{Acts}
-use Rattle.machine.specs.Judge.{judge}
-use Rattle.machine.specs.Interrupt.{Step}
-use Rattle.machine.specs.Step.{executed}
-use Rattle.machine.specs.Run.{Move}
-use Rattle.machine.specs.Calls.{Called, startCall}
+use Rattle.definition.specs.declared.state.Stamp.the-variants.{Never, At}
+use Rattle.definition.specs.declared.state.Time.{Time}
+use Rattle.definition.specs.declared.state.Visit.the-variants.{Held}
+use Rattle.definition.specs.declared.state.State.{State}
+use Rattle.definition.specs.declared.answer.Outcome.{Outcome}
+use Rattle.definition.specs.declared.answer.Outcome.the-variants.{Ran, Plain, Padded, Chained, Back, Reset, Halted}
+use Rattle.definition.specs.declared.answer.StartAnswer.the-variants.{Made}
+use Rattle.definition.specs.Registers.{pc, sr}
+use Rattle.definition.specs.Outcome.{isReset}
+use Rattle.definition.specs.Time.{pass}
+use Rattle.definition.specs.State.{World, isHeld}
+use Rattle.definition.specs.declared.judge.Judged.{Judged}
+use Rattle.definition.specs.declared.judge.Judged.the-variants.{Acts}
+use Rattle.definition.specs.Judge.{judge}
+use Rattle.definition.specs.Interrupt.{Step}
+use Rattle.definition.specs.Step.{executed}
+use Rattle.definition.specs.Run.{Move}
+use Rattle.definition.specs.Calls.{Called, startCall}
 use Rattle.secrecy.specs.Calls.{Call, runOf}
 use Rattle.secrecy.specs.Sighting.{beginsOutside}
 use Rattle.secrecy.specs.Visit.{VisitEnd, Fate, ended, away, Visit, visits, fateAt, ownCycles}

@@ -3,4 +3,3 @@ pub mod Sighting
 pub mod Visit
 pub mod Secrecy
 pub mod Duration
-pub mod Example

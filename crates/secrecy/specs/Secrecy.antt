@@ -8,12 +8,13 @@ use lib.ListN.{length}
 use Rattle.base.specs.Test.{any}
 use Rattle.layout.specs.declared.sections.Layout.{Layout}
 use Rattle.layout.specs.Sections.{outside}
-use Rattle.machine.specs.declared.state.Time.{Time}
-use Rattle.machine.specs.declared.state.Machine.{Machine}
-use Rattle.machine.specs.declared.answer.StartAnswer.the-variants.{Made}
-use Rattle.machine.specs.Memory.{byteAt}
-use Rattle.machine.specs.State.{World, world}
-use Rattle.machine.specs.Calls.{Called, startCall}
+use Rattle.definition.specs.declared.state.Time.{Time}
+use Rattle.definition.specs.declared.state.State.{State}
+use Rattle.definition.specs.declared.answer.StartAnswer.the-variants.{Made}
+use Rattle.definition.specs.Memory.{byteAt}
+use Rattle.definition.specs.State.{World, world}
+use Rattle.definition.specs.Run.{Move}
+use Rattle.definition.specs.Calls.{Called, startCall}
 use Rattle.secrecy.specs.Calls.{Call, runOf, leftByAll}
 use Rattle.secrecy.specs.Sighting.{Sighting, sightings}
 use Rattle.secrecy.specs.Visit.{VisitEnd, Fate, unended, ended, away, Visit, visits, fateAt, endedBy}
@@ -22,15 +23,24 @@ use Rattle.secrecy.specs.Visit.{VisitEnd, Fate, unended, ended, away, Vi
 abbrev pub startWorld : List ℕ → World
 startWorld mem = world (startCall mem .machine) (startCall mem .memory)
 
--- two fates are ends with equal own cycles, way and registers; the clock is not asked
-abbrev pub EndedAlike : Fate → Fate → Type 0
-EndedAlike unended f = ⊥
-EndedAlike (ended e) unended = ⊥
-EndedAlike (ended e) (ended f) = (e .own ≡ f .own) × (e .way ≡ f .way) × (e .registers ≡ f .registers)
+-- two ends have equal own cycles, way and registers; the clock is not asked
+abbrev pub Alike : VisitEnd → VisitEnd → Type 0
+Alike e f = (e .own ≡ f .own) × (e .way ≡ f .way) × (e .registers ≡ f .registers)
+
+-- two fates are ends, and so related
+abbrev pub BothEnded : (VisitEnd → VisitEnd → Type 0) → Fate → Fate → Type 0
+BothEnded Related unended f = ⊥
+BothEnded Related (ended e) unended = ⊥
+BothEnded Related (ended e) (ended f) = Related e f
+
+-- every visit that ended in either run at T or below ended in both, and their ends are so related
+abbrev pub EndsRelated : (VisitEnd → VisitEnd → Type 0) → ℕ → List Visit → List Visit → Type 0
+EndsRelated Related T vs us =
+    (k : ℕ) → any (endedBy T (fateAt vs k) ∷ endedBy T (fateAt us k) ∷ []) ≡ true → BothEnded Related (fateAt vs k) (fateAt us k)
 
 -- the premise: every visit that ended in either run at T or below ended in both, alike
 abbrev pub Premise : ℕ → List Visit → List Visit → Type 0
-Premise T vs us = (k : ℕ) → any (endedBy T (fateAt vs k) ∷ endedBy T (fateAt us k) ∷ []) ≡ true → EndedAlike (fateAt vs k) (fateAt us k)
+Premise T vs us = EndsRelated Alike T vs us
 
 -- two lists are equal, first to first and so on, as far as both go
 abbrev pub AgreeAsFar : List Sighting → List Sighting → Type 0
@@ -47,12 +57,17 @@ pub record Agree (T : ℕ) (endA endB : World) (xs ys : List Sighting) : Type 0 
   pub asFar : AgreeAsFar xs ys
   pub equallyMany : complete T endA ≡ true → complete T endB ≡ true → length xs ≡ length ys
 
--- secrecy: any layout and timetable, two memories equal at each outside address, two lists of calls, any clock value
-unfoldable pub Secrecy : Type 0
-Secrecy =
+-- secrecy under a premise on two runs: any layout and timetable, two memories equal at each outside address, two lists of calls, any
+-- clock value
+unfoldable pub SecrecyUnder : (Layout → ℕ → List Move → List Move → Type 0) → Type 0
+SecrecyUnder Premised =
     (L : Layout) (stamps memA memB : List ℕ) (callsA callsB : List Call) (T : ℕ)
     → startCall memA .answer ≡ Made → startCall memB .answer ≡ Made
     → ((a : ℕ) → outside L a ≡ true → byteAt memA a ≡ byteAt memB a)
-    → Premise T (visits L away (runOf L stamps (startWorld memA) callsA)) (visits L away (runOf L stamps (startWorld memB) callsB))
+    → Premised L T (runOf L stamps (startWorld memA) callsA) (runOf L stamps (startWorld memB) callsB)
     → Agree T (leftByAll L stamps (startWorld memA) callsA) (leftByAll L stamps (startWorld memB) callsB)
     (sightings L T (runOf L stamps (startWorld memA) callsA)) (sightings L T (runOf L stamps (startWorld memB) callsB))
+
+-- secrecy: the premise is on the visits of the two runs
+unfoldable pub Secrecy : Type 0
+Secrecy = SecrecyUnder (λ L T vs us. Premise T (visits L away vs) (visits L away us))

@@ -6,16 +6,16 @@ use lib.Dec.{leb}
 use Rattle.base.specs.Test.{if_then_else_, all}
 use Rattle.layout.specs.declared.sections.Layout.{Layout}
 use Rattle.layout.specs.Sections.{outside}
-use Rattle.machine.specs.declared.state.Stamp.{Stamp}
-use Rattle.machine.specs.declared.state.Time.{Time}
-use Rattle.machine.specs.declared.state.Machine.{Machine}
-use Rattle.machine.specs.declared.answer.Outcome.{Outcome}
-use Rattle.machine.specs.declared.answer.Outcome.the-variants.{Ran, Plain, Padded, Chained, Back, Reset, Halted}
-use Rattle.machine.specs.Memory.{byteAt}
-use Rattle.machine.specs.Registers.{pc}
-use Rattle.machine.specs.State.{World}
-use Rattle.machine.specs.Interrupt.{Step}
-use Rattle.machine.specs.Run.{Move, worldAfter}
+use Rattle.definition.specs.declared.state.Stamp.{Stamp}
+use Rattle.definition.specs.declared.state.Time.{Time}
+use Rattle.definition.specs.declared.state.State.{State}
+use Rattle.definition.specs.declared.answer.Outcome.{Outcome}
+use Rattle.definition.specs.declared.answer.Outcome.the-variants.{Ran, Plain, Padded, Chained, Back, Reset, Halted}
+use Rattle.definition.specs.Memory.{byteAt}
+use Rattle.definition.specs.Registers.{pc}
+use Rattle.definition.specs.State.{World}
+use Rattle.definition.specs.Interrupt.{Step}
+use Rattle.definition.specs.Run.{Move, worldAfter}
 
 -- clock, registers, outside bytes, slot and alarm
 pub record View : Type 0 where

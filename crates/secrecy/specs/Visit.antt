@@ -7,16 +7,16 @@ use Rattle.base.specs.Test.{if_then_else_, all}
 use Rattle.isa.specs.Cycles.{cyclesOf}
 use Rattle.layout.specs.declared.sections.Layout.{Layout}
 use Rattle.layout.specs.Sections.{entry, inside}
-use Rattle.machine.specs.declared.state.Time.{Time}
-use Rattle.machine.specs.declared.state.Machine.{Machine}
-use Rattle.machine.specs.Registers.{pc}
-use Rattle.machine.specs.Outcome.{isReset}
-use Rattle.machine.specs.State.{World, isHeld}
-use Rattle.machine.specs.declared.judge.Judged.{Judged}
-use Rattle.machine.specs.declared.judge.Judged.the-variants.{Faulty, Acts}
-use Rattle.machine.specs.Judge.{judge}
-use Rattle.machine.specs.Interrupt.{Step}
-use Rattle.machine.specs.Run.{Move}
+use Rattle.definition.specs.declared.state.Time.{Time}
+use Rattle.definition.specs.declared.state.State.{State}
+use Rattle.definition.specs.Registers.{pc}
+use Rattle.definition.specs.Outcome.{isReset}
+use Rattle.definition.specs.State.{World, isHeld}
+use Rattle.definition.specs.declared.judge.Judged.{Judged}
+use Rattle.definition.specs.declared.judge.Judged.the-variants.{Faulty, Acts}
+use Rattle.definition.specs.Judge.{judge}
+use Rattle.definition.specs.Interrupt.{Step}
+use Rattle.definition.specs.Run.{Move}
 use Rattle.secrecy.specs.Sighting.{beginsOutside}
 
 -- the ways to end
@@ -78,21 +78,25 @@ abbrev pub longer : Phase → ℕ → Phase
 longer away n = away
 longer (visiting start own) n = visiting start (own + n)
 
--- the visits of a run from a phase on
-unfoldable pub visits : Layout → Phase → List Move → List Visit
-visits L p [] = left p
-visits L p (v ∷ vs) =
+-- the visits of a run from a phase on, by what each step's own cycles are
+unfoldable pub visitsBy : (Layout → Move → ℕ) → Layout → Phase → List Move → List Visit
+visitsBy own L p [] = left p
+visitsBy own L p (v ∷ vs) =
     -- a visit is held: a service routine's step, whose reset drops it
     if isHeld (v .before .machine .visit) then
-    if isReset (v .after .outcome) then left p ++ visits L away vs else visits L p vs
+    if isReset (v .after .outcome) then left p ++ visitsBy own L away vs else visitsBy own L p vs
     -- a step begins outside with none held: a visit has ended by leaving
     else if beginsOutside L v then
-    closed p (v .before .machine .time .clock) 0 leaving (v .before .machine .registers) ++ visits L away vs
+    closed p (v .before .machine .time .clock) 0 leaving (v .before .machine .registers) ++ visitsBy own L away vs
     -- pc in code or data, none held: an own reset, or an instruction inside
     else if isReset (v .after .outcome) then
-    closed (entered L v p) (v .after .machine .time .clock) (ownCycles L v) ownReset (v .after .machine .registers)
-    ++ visits L away vs
-    else visits L (longer (entered L v p) (ownCycles L v)) vs
+    closed (entered L v p) (v .after .machine .time .clock) (own L v) ownReset (v .after .machine .registers)
+    ++ visitsBy own L away vs
+    else visitsBy own L (longer (entered L v p) (own L v)) vs
+
+-- the visits of a run from a phase on
+abbrev pub visits : Layout → Phase → List Move → List Visit
+visits L p vs = visitsBy ownCycles L p vs
 
 -- visit number k; a run that has none has not ended it
 abbrev pub fateAt : List Visit → ℕ → Fate

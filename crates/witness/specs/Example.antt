@@ -1,25 +1,26 @@
--- Two machines of which the theorem speaks: their modules differ, a pulse breaks into them at different instructions, and outside
+-- Two machines of which the theorem speaks: their modules differ, a request breaks into them at different instructions, and outside
 -- code sees the same.
-use Prim.Native.Nat.{ℕ, _≤_}
+use Prim.Native.Nat.{ℕ}
 use mathlib.Core.Path.{_≡_}
-use mathlib.Core.List.{List, [], _∷_, _++_, map}
-use lib.ListN.{length, replicate}
+use mathlib.Core.Bool.{true}
+use mathlib.Core.List.{List, [], _∷_, _++_}
+use lib.ListN.{length}
 use Rattle.layout.specs.declared.sections.Layout.{Layout}
 use Rattle.layout.specs.Sections.{outside}
-use Rattle.machine.specs.declared.state.Time.{Time}
-use Rattle.machine.specs.declared.state.Machine.{Machine}
-use Rattle.machine.specs.declared.answer.Outcome.the-variants.{Ran, Padded, Back, Halted}
-use Rattle.machine.specs.declared.answer.StartAnswer.the-variants.{Made}
-use Rattle.machine.specs.Registers.{pc}
-use Rattle.machine.specs.State.{World}
-use Rattle.machine.specs.Interrupt.{Step}
-use Rattle.machine.specs.Run.{Move}
-use Rattle.machine.specs.Calls.{Called, startCall}
-use Rattle.machine.specs.Starred.{MLine, M, loaded, StepLine, line, linesOf}
+use Rattle.definition.specs.declared.state.Time.{Time}
+use Rattle.definition.specs.declared.state.State.{State}
+use Rattle.definition.specs.declared.answer.Outcome.the-variants.{Ran, Padded, Back, Halted}
+use Rattle.definition.specs.declared.answer.StartAnswer.the-variants.{Made}
+use Rattle.definition.specs.Memory.{byteAt}
+use Rattle.definition.specs.State.{World}
+use Rattle.definition.specs.Interrupt.{Step}
+use Rattle.definition.specs.Run.{Move}
+use Rattle.definition.specs.Calls.{Called, startCall}
+use Rattle.witness.specs.Lines.{MLine, M, memoryOf, StepLine, line, linesOf}
 use Rattle.secrecy.specs.Calls.{Call, running, runOf}
 use Rattle.secrecy.specs.Sighting.{Sighting, sightings}
 use Rattle.secrecy.specs.Visit.{away, visits}
 use Rattle.secrecy.specs.Secrecy.{startWorld, Premise}
 
 -- code at 0040, data at 0050, the service routine at 0020
 abbrev pub exampleLayout : Layout
@@ -36,13 +37,21 @@ outsideLines =
 abbrev pub leavingLines : List MLine
 leavingLines = M 0x0044 0x4036 ∷ M 0x0046 0x0030 ∷ M 0x0048 0x4600 ∷ []
 
--- one module begins with two NOPs, the other with MOV #0 7: two cycles each
-unfoldable pub memoryA : List ℕ
-memoryA = loaded (replicate 65536 0) (outsideLines ++ leavingLines ++ (M 0x0040 0x4303 ∷ M 0x0042 0x4303 ∷ []))
+-- one module begins with two NOPs: two cycles
+abbrev pub moduleA : List MLine
+moduleA = M 0x0040 0x4303 ∷ M 0x0042 0x4303 ∷ leavingLines
 
--- the other
+-- the other with MOV #0 7: two cycles too
+abbrev pub moduleB : List MLine
+moduleB = M 0x0040 0x4037 ∷ M 0x0042 0x0000 ∷ leavingLines
+
+-- the memory of the one
+unfoldable pub memoryA : List ℕ
+memoryA = memoryOf outsideLines moduleA
+
+-- the memory of the other
 unfoldable pub memoryB : List ℕ
-memoryB = loaded (replicate 65536 0) (outsideLines ++ leavingLines ++ (M 0x0040 0x4037 ∷ M 0x0042 0x0000 ∷ []))
+memoryB = memoryOf outsideLines moduleB
 
 -- one run of both, with a request at stamp 5
 unfoldable pub exampleRun : List ℕ → List Move
@@ -59,11 +68,12 @@ linesLater =
     line Ran 27 0x0048 8 0 ∷ line Ran 29 0x0030 8 0 ∷ line Ran 30 0x0032 8 0 ∷ line Ran 31 0x0034 8 0 ∷ line Ran 32 0x0036 8 0
     ∷ line Ran 33 0x0038 8 0 ∷ line Ran 34 0x003A 8 0 ∷ line Halted 35 0x003C 8 0 ∷ []
 
--- the premise holds of them, they are broken into at different instructions (the one goes back to 0042 at 24, the other to 0044 at
--- 25), and each has eleven sightings, a resumption among them
+-- they differ in the module only, the premise holds of them, they are broken into at different instructions (the one goes back to
+-- 0042 at 24, the other to 0044 at 25), and each has eleven sightings, a resumption among them
 pub record NotVacuous : Type 0 where
   pub startsA : startCall memoryA .answer ≡ Made
   pub startsB : startCall memoryB .answer ≡ Made
+  pub same : (a : ℕ) → outside exampleLayout a ≡ true → byteAt memoryA a ≡ byteAt memoryB a
   pub runA : linesOf (exampleRun memoryA) ≡ linesBefore ++ (line Back 24 0x0042 8 0 ∷ line Ran 25 0x0044 8 0 ∷ linesLater)
   pub runB : linesOf (exampleRun memoryB) ≡ linesBefore ++ (line Back 25 0x0044 8 0 ∷ linesLater)
   pub premise : Premise 100 (visits exampleLayout away (exampleRun memoryA)) (visits exampleLayout away (exampleRun memoryB))

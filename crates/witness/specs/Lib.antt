@@ -1,0 +1,4 @@
+pub mod Lines
+pub mod Starred
+pub mod Example
+pub mod Needed

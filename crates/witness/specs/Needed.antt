@@ -1,0 +1,48 @@
+-- What the premise of secrecy asks is needed: secrecy with less asked is false.
+use Prim.Native.Nat.{ℕ, _-_}
+use mathlib.Core.Path.{_≡_}
+use mathlib.Core.List.{List}
+use Rattle.layout.specs.declared.sections.Layout.{Layout}
+use Rattle.definition.specs.declared.state.Time.{Time}
+use Rattle.definition.specs.declared.state.State.{State}
+use Rattle.definition.specs.State.{World}
+use Rattle.definition.specs.Interrupt.{Step}
+use Rattle.definition.specs.Run.{Move}
+use Rattle.secrecy.specs.Visit.{VisitEnd, away, visitsBy, ownCycles}
+use Rattle.secrecy.specs.Secrecy.{Alike, EndsRelated, SecrecyUnder}
+
+-- secrecy, by what each step's own cycles are and by how the ends of visits are to be related
+abbrev pub SecrecyBy : (Layout → Move → ℕ) → (VisitEnd → VisitEnd → Type 0) → Type 0
+SecrecyBy own Related = SecrecyUnder (λ L T vs us. EndsRelated Related T (visitsBy own L away vs) (visitsBy own L away us))
+
+-- equal own cycles and registers: the way is not asked
+abbrev pub AlikeButWay : VisitEnd → VisitEnd → Type 0
+AlikeButWay e f = (e .own ≡ f .own) × (e .registers ≡ f .registers)
+
+-- equal own cycles and way: the registers are not asked
+abbrev pub AlikeButRegisters : VisitEnd → VisitEnd → Type 0
+AlikeButRegisters e f = (e .own ≡ f .own) × (e .way ≡ f .way)
+
+-- equal way and registers: the own cycles are not asked
+abbrev pub AlikeButOwn : VisitEnd → VisitEnd → Type 0
+AlikeButOwn e f = (e .way ≡ f .way) × (e .registers ≡ f .registers)
+
+-- all cycles of a step, its waits counted
+abbrev pub cyclesAndWaits : Layout → Move → ℕ
+cyclesAndWaits L v = v .after .machine .time .clock - v .before .machine .time .clock
+
+-- without the way: an own reset empties the slot, leaving for the reset vector's address does not
+unfoldable pub WayNeeded : Type 0
+WayNeeded = ¬ SecrecyBy ownCycles AlikeButWay
+
+-- without the registers: a module leaves its secret in one
+unfoldable pub RegistersNeeded : Type 0
+RegistersNeeded = ¬ SecrecyBy ownCycles AlikeButRegisters
+
+-- without the own cycles: a module takes longer
+unfoldable pub OwnCyclesNeeded : Type 0
+OwnCyclesNeeded = ¬ SecrecyBy ownCycles AlikeButOwn
+
+-- with own cycles that count the waits: one cycle more of work and one less of padding
+unfoldable pub WaitsNotOwn : Type 0
+WaitsNotOwn = ¬ SecrecyBy cyclesAndWaits Alike
