@@ -1,5 +1,2 @@
-pub mod Finding
-pub mod NumberLaws
 pub mod SheetLaws
-pub mod TranscriptLaws
 pub mod SoundLaws

@@ -15,17 +15,17 @@ use Rattle.base.specs.Word.{even}
 use Rattle.base.specs.declared.refusal.Refusal.the-variants.{Line as Unreadable}
 use Rattle.base.proofs.Tests.{cases, if-true, if-false}
 use Rattle.layout.specs.declared.sections.Layout.{Layout}
-use Rattle.machine.specs.Memory.{putWord}
-use Rattle.sheet.specs.declared.line.Said.{Said}
-use Rattle.sheet.specs.declared.line.Said.the-variants.{Layout as Layouts, Word, Stamp, Budget}
-use Rattle.sheet.specs.declared.line.Line.{Line}
-use Rattle.sheet.specs.declared.line.Line.the-variants.{Is, Bad}
+use Rattle.definition.specs.Memory.{putWord}
+use Rattle.lines.specs.declared.line.Said.{Said}
+use Rattle.lines.specs.declared.line.Said.the-variants.{Layout as Layouts, Word, Stamp, Budget}
+use Rattle.lines.specs.declared.line.Line.{Line}
+use Rattle.lines.specs.declared.line.Line.the-variants.{Is, Bad}
 use Rattle.sheet.specs.declared.reader.Answer.{Answer}
 use Rattle.sheet.specs.declared.reader.Answer.the-variants.{Refused}
 use Rattle.sheet.specs.declared.reader.Stage.{Stage}
 use Rattle.sheet.specs.declared.reader.Stage.the-variants.{Goes, Stops}
-use Rattle.sheet.specs.Text.{newline, find, holds, head, rest}
-use Rattle.sheet.specs.Line.{lineOf}
+use Rattle.lines.specs.Text.{newline, find, holds, head, rest}
+use Rattle.lines.specs.Line.{lineOf}
 use Rattle.sheet.specs.Sheet.{led, pieces, noneFollows, nothingFollows, stageOf, onStage, onLine, bodyFrom, firstOf, onFirst, linesAnswer, sheetAnswer, stored, memoryFrom, sheetMemory, stampOf, stampsFrom}
 
 -- ---- pieces

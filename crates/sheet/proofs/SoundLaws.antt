@@ -13,12 +13,12 @@ use Rattle.base.specs.declared.refusal.Refusal.the-variants.{Timetable}
 use Rattle.base.proofs.Tests.{cases, choose, each, every, if-true, if-false}
 use Rattle.layout.specs.declared.sections.Layout.{Layout}
 use Rattle.layout.specs.Rules.{accepted}
-use Rattle.machine.specs.Run.{lastClock}
-use Rattle.machine.specs.Calls.{risingFrom, timetable}
-use Rattle.sheet.specs.declared.line.Said.{Said}
-use Rattle.sheet.specs.declared.line.Said.the-variants.{Layout as Layouts, Word, Stamp, Budget}
-use Rattle.sheet.specs.declared.line.Line.{Line}
-use Rattle.sheet.specs.declared.line.Line.the-variants.{Is, Bad}
+use Rattle.definition.specs.Run.{lastClock}
+use Rattle.definition.specs.Calls.{risingFrom, timetable}
+use Rattle.lines.specs.declared.line.Said.{Said}
+use Rattle.lines.specs.declared.line.Said.the-variants.{Layout as Layouts, Word, Stamp, Budget}
+use Rattle.lines.specs.declared.line.Line.{Line}
+use Rattle.lines.specs.declared.line.Line.the-variants.{Is, Bad}
 use Rattle.sheet.specs.declared.reader.Setup.{Setup}
 use Rattle.sheet.specs.declared.reader.Answer.{Answer}
 use Rattle.sheet.specs.declared.reader.Answer.the-variants.{Read, Refused}
@@ -26,7 +26,7 @@ use Rattle.sheet.specs.declared.reader.First.{First}
 use Rattle.sheet.specs.declared.reader.First.the-variants.{Is as FirstIs, Other}
 use Rattle.sheet.specs.declared.reader.Stage.{Stage}
 use Rattle.sheet.specs.declared.reader.Stage.the-variants.{Goes, Stops}
-use Rattle.sheet.specs.Line.{lineOf}
+use Rattle.lines.specs.Line.{lineOf}
 use Rattle.sheet.specs.Sheet.{pieces, noneFollows, nothingFollows, fitsTimetable, budgetAnswer, stageOf, onStage, onLine, bodyFrom, firstOf, onFirst, linesAnswer, sheetAnswer, stampOf, stampsFrom, sheetStamps}
 use Rattle.sheet.specs.Laws.{Sound, ReadIsSound}
 use Rattle.sheet.proofs.SheetLaws.{empty-line}

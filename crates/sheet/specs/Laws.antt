@@ -5,7 +5,7 @@ use mathlib.Core.Bool.{true}
 use mathlib.Core.List.{List}
 use lib.ListN.{length}
 use Rattle.layout.specs.Rules.{accepted}
-use Rattle.machine.specs.Calls.{timetable}
+use Rattle.definition.specs.Calls.{timetable}
 use Rattle.sheet.specs.declared.reader.Setup.{Setup}
 use Rattle.sheet.specs.declared.reader.Answer.the-variants.{Read}
 use Rattle.sheet.specs.Sheet.{sheetAnswer, sheetStamps}

@@ -8,20 +8,20 @@ use Rattle.base.specs.Test.{if_then_else_, all}
 use Rattle.base.specs.declared.refusal.Refusal.the-variants.{Fence, Timetable, Distance, Line as Unreadable, Sheet as TooLong}
 use Rattle.layout.specs.declared.sections.Layout.{Layout}
 use Rattle.layout.specs.Rules.{accepted}
-use Rattle.machine.specs.Memory.{putWord}
-use Rattle.machine.specs.Run.{lastClock}
-use Rattle.sheet.specs.declared.line.Said.{Said}
-use Rattle.sheet.specs.declared.line.Said.the-variants.{Layout as Layouts, Word, Stamp, Budget}
-use Rattle.sheet.specs.declared.line.Line.{Line}
-use Rattle.sheet.specs.declared.line.Line.the-variants.{Is, Bad}
+use Rattle.definition.specs.Memory.{putWord}
+use Rattle.definition.specs.Run.{lastClock}
+use Rattle.lines.specs.declared.line.Said.{Said}
+use Rattle.lines.specs.declared.line.Said.the-variants.{Layout as Layouts, Word, Stamp, Budget}
+use Rattle.lines.specs.declared.line.Line.{Line}
+use Rattle.lines.specs.declared.line.Line.the-variants.{Is, Bad}
 use Rattle.sheet.specs.declared.reader.Answer.{Answer}
 use Rattle.sheet.specs.declared.reader.Answer.the-variants.{Read, Refused}
 use Rattle.sheet.specs.declared.reader.First.{First}
 use Rattle.sheet.specs.declared.reader.First.the-variants.{Is as FirstIs, Other}
 use Rattle.sheet.specs.declared.reader.Stage.{Stage}
 use Rattle.sheet.specs.declared.reader.Stage.the-variants.{Goes, Stops}
-use Rattle.sheet.specs.Text.{newline}
-use Rattle.sheet.specs.Line.{lineOf}
+use Rattle.lines.specs.Text.{newline}
+use Rattle.lines.specs.Line.{lineOf}
 
 -- ---- lines
 

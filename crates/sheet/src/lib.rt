@@ -1,8 +1,4 @@
-// The bench sheet: its fields and lines, and the setup that it tells.
+// The bench sheet: the reader of its lines, and the setup that they tell.
 pub mod laws;
-pub mod line;
-pub mod number;
 pub mod reader;
 pub mod setup;
-pub mod text;
-pub mod transcript;

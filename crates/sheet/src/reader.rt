@@ -7,14 +7,14 @@ ghost use Rattle.base.specs.declared.refusal.Refusal.the-variants.{Timetable as
 ghost use Rattle.sheet.specs.declared.reader.Answer.the-variants.{Refused as REFUSED};
 ghost use Rattle.sheet.specs.declared.reader.Stage.the-variants.{Goes as GOES, Stops as STOPS};
 ghost use Rattle.sheet.specs.Sheet.{pieces, fitsTimetable, budgetAnswer, stageOf, onStage, bodyFrom, firstOf, sheetAnswer};
-use crate::line::Line;
-use crate::line::Said;
-use crate::line::read_line;
-use crate::text::head;
-use crate::text::holds_byte;
-use crate::text::rest;
 use base::refusal::Refusal;
 use layout::sections::Layout;
+use lines::line::Line;
+use lines::line::Said;
+use lines::line::read_line;
+use lines::text::head;
+use lines::text::holds_byte;
+use lines::text::rest;
 
 // What a sheet sets up: the layout, how many stamps the timetable has, the budget.
 pub struct Setup {

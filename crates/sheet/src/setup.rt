@@ -4,13 +4,13 @@ ghost use mathlib.Core.List.{[]};
 ghost use Prim.Native.Nat.{_≤_};
 ghost use lib.ListN.{length, set};
 ghost use lib.Seq.{sets};
-ghost use Rattle.machine.specs.Memory.{putWord};
+ghost use Rattle.definition.specs.Memory.{putWord};
 ghost use Rattle.sheet.specs.Sheet.{pieces, stored, memoryFrom, sheetMemory, stampOf, stampsFrom, sheetStamps};
-use crate::line::Line;
-use crate::line::Said;
-use crate::line::read_line;
-use crate::text::head;
-use crate::text::rest;
+use lines::line::Line;
+use lines::line::Said;
+use lines::line::read_line;
+use lines::text::head;
+use lines::text::rest;
 
 // Puts a word at an address, whose bit 0 is dropped.
 fn put_word(mem: &mut [u8; 65536], a: u16, w: u16)

@@ -5,7 +5,7 @@ use lib.Dec.{ltb, leb}
 use borrow.Author.Tests.{ltb-true}
 use Rattle.base.specs.Test.{if_then_else_}
 use Rattle.base.proofs.Tests.{each}
-use Rattle.machine.specs.Run.{lastClock}
+use Rattle.definition.specs.Run.{lastClock}
 use Rattle.sheet.specs.Sheet.{fitsTimetable}
 use borrow.Author.Needs.{needs}
 use Rattle.sheet.proofs.reader.stamp_stage.Statement.{statement}

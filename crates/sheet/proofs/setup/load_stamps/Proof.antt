@@ -4,8 +4,8 @@ use native.Mathlib.Omega.{arith}
 use denote.Ref.{now}
 use lib.ListN.{length}
 use lib.Seq.{sets, length-sets}
-use Rattle.sheet.specs.Text.{newline, head, rest}
-use Rattle.sheet.specs.Line.{lineOf}
+use Rattle.lines.specs.Text.{newline, head, rest}
+use Rattle.lines.specs.Line.{lineOf}
 use Rattle.sheet.specs.Sheet.{pieces, stampsFrom, sheetStamps}
 use Rattle.sheet.proofs.SheetLaws.{rest-less, stamps-next, stamps-end, stamp-sets}
 use borrow.Author.Needs.{needs}

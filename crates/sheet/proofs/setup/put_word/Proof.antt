@@ -1,5 +1,5 @@
 use mathlib.Core.Path.{refl}
-use Rattle.machine.specs.Memory.{putWord}
+use Rattle.definition.specs.Memory.{putWord}
 use borrow.Author.Needs.{needs}
 use Rattle.sheet.proofs.setup.put_word.Statement.{statement}
 use Rattle.sheet.proofs.setup.put_word.Tie as tie

@@ -1,0 +1,2 @@
+// The lines of a run's transcript.
+pub mod line;
