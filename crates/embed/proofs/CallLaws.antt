@@ -5,23 +5,24 @@ use Prim.Native.Nat.{ℕ}
 use Rattle.base.specs.declared.refusal.Refusal.{Refusal}
 use Rattle.base.specs.Refusal.{refusalNumber}
 use Rattle.layout.specs.declared.sections.Layout.{Layout}
-use Rattle.machine.specs.declared.state.Control.{Control}
-use Rattle.machine.specs.declared.state.Machine.{Machine}
-use Rattle.machine.specs.declared.answer.Outcome.{Outcome}
-use Rattle.machine.specs.declared.answer.End.{End}
+use Rattle.act.specs.declared.control.Control.{Control}
+use Rattle.act.specs.Control.{joined}
+use Rattle.definition.specs.declared.state.State.{State}
+use Rattle.definition.specs.declared.answer.Outcome.{Outcome}
+use Rattle.definition.specs.declared.answer.End.{End}
 use Rattle.machine.specs.declared.answer.Started.{Started}
 use Rattle.machine.specs.declared.answer.Stepped.{Stepped}
 use Rattle.machine.specs.declared.answer.Ran.{Ran}
-use Rattle.machine.specs.declared.answer.StartAnswer.the-variants.{Made as HasStarted, Refused as NotStarted}
-use Rattle.machine.specs.declared.answer.StepAnswer.{StepAnswer}
-use Rattle.machine.specs.declared.answer.StepAnswer.the-variants.{Made as HasStepped, Refused as NotStepped}
-use Rattle.machine.specs.declared.answer.RunAnswer.the-variants.{Made as HasRun, Refused as NotRun}
-use Rattle.machine.specs.State.{world}
-use Rattle.machine.specs.Outcome.{kindLetter, endLetter}
-use Rattle.machine.specs.Calls.{startCall, stepCall, runCall, startRefusal, stepRefusal, runRefusal, Untouched, started, stepped, ran}
-use Rattle.machine.specs.Lent.{joined}
+use Rattle.definition.specs.declared.answer.StartAnswer.the-variants.{Made as HasStarted, Refused as NotStarted}
+use Rattle.definition.specs.declared.answer.StepAnswer.{StepAnswer}
+use Rattle.definition.specs.declared.answer.StepAnswer.the-variants.{Made as HasStepped, Refused as NotStepped}
+use Rattle.definition.specs.declared.answer.RunAnswer.the-variants.{Made as HasRun, Refused as NotRun}
+use Rattle.definition.specs.State.{world}
+use Rattle.definition.specs.Outcome.{kindLetter, endLetter}
+use Rattle.definition.specs.Calls.{startCall, stepCall, runCall, startRefusal, stepRefusal, runRefusal, Untouched}
+use Rattle.machine.specs.Answers.{started, stepped, ran}
+use Rattle.numbers.specs.State.{layoutOf, Numbers, numbers, machineOf, numbersOf}
 use Rattle.embed.specs.Kept.{unlessRefused}
-use Rattle.embed.specs.State.{layoutOf, timeFields, controlFields, controlFrom, Numbers, numbers, machineOf, numbersOf}
 use Rattle.embed.specs.Calls.{stepOn, runOn, causeOf, stepKind, stepCause, runEnd, runSteps}
 use Rattle.embed.proofs.KeptLaws.{no-number, kept, given}
 
@@ -33,27 +34,15 @@ module _ (before : Numbers) (mem : List ℕ) (done : Started) (e : done ≡ star
       × (before ≡ unlessRefused n (numbersOf (startCall mem .machine)) before)
   start-refused r h n k = (k ∙ ap startRefusal (sym h ∙ ap (λ (x : Started). x .answer) e), kept n r k _ _)
 
-  pub start-taken : done .answer ≡ HasStarted → (after : Numbers) → after ≡ numbersOf (done .machine)
+  pub start-taken : done .answer ≡ HasStarted → (after : Numbers) → after ≡ numbersOf (done .machine .0)
       → (0 ≡ startRefusal (startCall mem .answer))
       × (after ≡ unlessRefused 0 (numbersOf (startCall mem .machine)) before)
   start-taken h after k = (
     ap startRefusal (sym h ∙ ap (λ (x : Started). x .answer) e),
-    given _ _ (k ∙ ap (λ (x : Started). numbersOf (x .machine)) e),
+    given _ _ (k ∙ ap (λ (x : Started). numbersOf (x .machine .0)) e),
   )
 
 -- ---- step and run, on what stands for the caller's numbers
-
--- the machine of lent registers and what stands beside them
-pub lent-machine : (registers saved control time : List ℕ) (c : Control) → c ≡ controlFrom control time
-    → joined registers saved c ≡ machineOf (numbers registers saved control time)
-unfolding machineOf
-lent-machine registers saved control time c e = ap (joined registers saved) e
-
--- its numbers
-pub lent-numbers : (registers saved control time : List ℕ) (c : Control) → control ≡ controlFields (c .previous) (c .halted) (c .visit)
-    → time ≡ timeFields (c .time) → numbers registers saved control time ≡ numbersOf (joined registers saved c)
-unfolding numbersOf
-lent-numbers registers saved control time c e f = rw (e, f)
 
 -- a refused step leaves lent registers as they came
 pub lent-untouched : (registers saved registers' saved' mem bytes control time : List ℕ) (c d : Control) (answer : StepAnswer) (r : Refusal)
@@ -61,10 +50,10 @@ pub lent-untouched : (registers saved registers' saved' mem bytes control time :
     → Untouched (stepRefusal answer) (world (joined registers saved c) mem) (world (joined registers' saved' d) bytes)
     → numbers registers' saved' control time ≡ numbers registers saved control time
 lent-untouched registers saved registers' saved' mem bytes control time c d answer r h u =
-    ap (λ (m : Machine). numbers (m .registers) (m .saved) control time) (u (λ z. no-number r (sym (ap stepRefusal h) ∙ z)) .0)
+    ap (λ (m : State). numbers (m .registers) (m .saved) control time) (u (λ z. no-number r (sym (ap stepRefusal h) ∙ z)) .0)
 
 module _
-    (before : Numbers) (mem layout stamps : List ℕ) (L : Layout) (l : L ≡ layoutOf layout) (m : Machine)
+    (before : Numbers) (mem layout stamps : List ℕ) (L : Layout) (l : L ≡ layoutOf layout) (m : State)
     (j : m ≡ machineOf before) where
   step-by : stepCall L stamps (world m mem) ≡ stepOn before mem layout stamps
   unfolding stepOn
@@ -95,7 +84,7 @@ module _
       (step-memory, (u ∙ kept n r k _ _, (kept n r k _ _, kept n r k _ _))),
     )
 
-    pub step-taken : (o : Outcome) → done .answer ≡ HasStepped o → (after : Numbers) → after ≡ numbersOf (done .machine)
+    pub step-taken : (o : Outcome) → done .answer ≡ HasStepped o → (after : Numbers) → after ≡ numbersOf (done .machine .0)
         → (kind cause letter number : ℕ) → letter ≡ kindLetter o → number ≡ causeOf o
         → (0 ≡ stepRefusal (stepOn before mem layout stamps .answer))
         × ((bytes ≡ stepOn before mem layout stamps .memory)
@@ -108,7 +97,7 @@ module _
           (
             step-memory,
             (
-              given _ _ (k ∙ ap (λ (x : Stepped). numbersOf (x .machine)) step-handed),
+              given _ _ (k ∙ ap (λ (x : Stepped). numbersOf (x .machine .0)) step-handed),
               (given _ _ (p ∙ ap stepKind a), given _ _ (q ∙ ap stepCause a)),
             ),
           ),
@@ -135,7 +124,7 @@ module _
     )
 
     pub run-taken : (ending : End) (made : ℕ) → done .answer ≡ HasRun ending made → (after : Numbers)
-        → after ≡ numbersOf (done .machine) → (end steps letter : ℕ) → letter ≡ endLetter ending
+        → after ≡ numbersOf (done .machine .0) → (end steps letter : ℕ) → letter ≡ endLetter ending
         → (0 ≡ runRefusal (runOn before mem layout stamps budget .answer))
         × ((bytes ≡ runOn before mem layout stamps budget .memory)
         × ((after ≡ unlessRefused 0 (numbersOf (runOn before mem layout stamps budget .machine)) before)
@@ -147,7 +136,7 @@ module _
           (
             run-memory,
             (
-              given _ _ (k ∙ ap (λ (x : Ran). numbersOf (x .machine)) run-handed),
+              given _ _ (k ∙ ap (λ (x : Ran). numbersOf (x .machine .0)) run-handed),
               (given _ _ (p ∙ ap runEnd a), given _ _ (ap runSteps a)),
             ),
           ),

@@ -1,33 +1,20 @@
--- Numbers whose halted or held is neither 0 nor 1 are of no frame. Assumes nothing.
+-- Step and run refuse numbers whose halted or held is neither 0 nor 1. Assumes nothing.
 use mathlib.Core.Path.{_≡_, refl, sym, _∙_}
-use mathlib.Core.Bool.{true, false, true≢false}
+use mathlib.Core.Bool.{true, true≢false}
 use mathlib.Core.List.{List}
 use Prim.Native.Nat.{ℕ}
-use native.Mathlib.Omega.{arith}
-use lib.ListN.{getD}
-use Rattle.base.proofs.Tests.{never, if-true}
 use Rattle.layout.specs.declared.sections.Layout.{Layout}
-use Rattle.machine.specs.declared.state.Visit.the-variants.{Held}
-use Rattle.machine.specs.declared.verdict.Verdict.{Verdict}
-use Rattle.machine.specs.declared.verdict.Verdict.the-variants.{Taken as taken, Refused as refused}
-use Rattle.machine.specs.State.{World, world, framed}
-use Rattle.machine.specs.Calls.{verdict, stepTests, runTests, stepAnswered, runAnswered, stepCall, runCall, stepRefusal, runRefusal}
-use Rattle.machine.proofs.FrameLaws.{held-framed}
-use Rattle.machine.proofs.CallLaws.{first-holds}
-use Rattle.embed.specs.State.{layoutOf, oddFlag, visitOf, Numbers, machineOf}
+use Rattle.definition.specs.declared.verdict.Verdict.{Verdict}
+use Rattle.definition.specs.declared.verdict.Verdict.the-variants.{Taken as taken, Refused as refused}
+use Rattle.definition.specs.State.{World, world, framed}
+use Rattle.definition.specs.Calls.{verdict, stepTests, runTests, stepAnswered, runAnswered, stepCall, runCall, stepRefusal, runRefusal}
+use Rattle.definition.proofs.run.CallLaws.{first-holds}
+use Rattle.numbers.specs.State.{layoutOf, machineOf}
+use Rattle.numbers.specs.Laws.{OddFlagUnframed}
+use Rattle.numbers.proofs.FlagLaws.{odd-flag-unframed}
 use Rattle.embed.specs.Calls.{stepOn, runOn}
-use Rattle.embed.specs.Laws.{OddFlagUnframed, OddFlagRefused}
+use Rattle.embed.specs.Laws.{OddFlagRefused}
 use Rattle.embed.proofs.KeptLaws.{no-number}
-
--- they are read as a visit of age 255
-odd-visit : (fields : List ℕ) → oddFlag fields ≡ true → visitOf fields ≡ Held (getD fields 3 0) 255
-unfolding visitOf
-odd-visit fields h = if-true _ _ _ h
-
-pub odd-flag-unframed : OddFlagUnframed
-unfolding OddFlagUnframed machineOf
-odd-flag-unframed L n h =
-    never _ (λ f. let b = held-framed L (machineOf n) _ 255 f (odd-visit (n .control) h) .age-bound in omega arith)
 
 module _ (L : Layout) (stamps : List ℕ) (w : World) where
   step-number : (v : Verdict) → (v ≡ taken → ⊥) → stepRefusal (stepAnswered L stamps w v .answer) ≡ 0 → ⊥

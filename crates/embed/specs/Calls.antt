@@ -1,16 +1,16 @@
 -- Start, step and run on what a caller lends: the machine's own calls, on the machine and the layout of the caller's numbers.
 use Prim.Native.Nat.{ℕ}
 use mathlib.Core.List.{List}
-use Rattle.machine.specs.declared.answer.Outcome.{Outcome}
-use Rattle.machine.specs.declared.answer.Outcome.the-variants.{Ran, Plain, Padded, Chained, Back, Reset, Halted}
-use Rattle.machine.specs.declared.answer.StepAnswer.{StepAnswer}
-use Rattle.machine.specs.declared.answer.StepAnswer.the-variants.{Made as HasStepped, Refused as NotStepped}
-use Rattle.machine.specs.declared.answer.RunAnswer.{RunAnswer}
-use Rattle.machine.specs.declared.answer.RunAnswer.the-variants.{Made as HasRun, Refused as NotRun}
-use Rattle.machine.specs.State.{world}
-use Rattle.machine.specs.Outcome.{causeNumber, kindLetter, endLetter}
-use Rattle.machine.specs.Calls.{Called, stepCall, runCall}
-use Rattle.embed.specs.State.{layoutOf, Numbers, machineOf}
+use Rattle.definition.specs.declared.answer.Outcome.{Outcome}
+use Rattle.definition.specs.declared.answer.Outcome.the-variants.{Ran, Plain, Padded, Chained, Back, Reset, Halted}
+use Rattle.definition.specs.declared.answer.StepAnswer.{StepAnswer}
+use Rattle.definition.specs.declared.answer.StepAnswer.the-variants.{Made as HasStepped, Refused as NotStepped}
+use Rattle.definition.specs.declared.answer.RunAnswer.{RunAnswer}
+use Rattle.definition.specs.declared.answer.RunAnswer.the-variants.{Made as HasRun, Refused as NotRun}
+use Rattle.definition.specs.State.{world}
+use Rattle.definition.specs.Outcome.{causeNumber, kindLetter, endLetter}
+use Rattle.definition.specs.Calls.{Called, stepCall, runCall}
+use Rattle.numbers.specs.State.{layoutOf, Numbers, machineOf}
 
 -- the step call of a caller's machine, memory, layout and stamps
 unfoldable pub stepOn : Numbers → List ℕ → List ℕ → List ℕ → Called StepAnswer

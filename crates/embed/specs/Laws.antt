@@ -1,43 +1,15 @@
--- What is claimed of the numbers that a caller lends: the statements of the laws.
+-- What is claimed of calls on the numbers that a caller lends: the statements of the laws.
 use mathlib.Core.Path.{_≡_}
-use mathlib.Core.Bool.{true, false}
+use mathlib.Core.Bool.{true}
 use mathlib.Core.List.{List}
 use Prim.Native.Nat.{ℕ}
-use Rattle.isa.specs.declared.instruction.Instruction.{Instruction}
-use Rattle.isa.specs.declared.table.Row.{Row}
-use Rattle.isa.specs.Words.{writing}
-use Rattle.layout.specs.declared.sections.Layout.{Layout}
-use Rattle.machine.specs.declared.state.Machine.{Machine}
-use Rattle.machine.specs.State.{framed}
-use Rattle.machine.specs.Calls.{stepRefusal, runRefusal}
-use Rattle.embed.specs.declared.instruction.Numbered.the-variants.{Is}
-use Rattle.embed.specs.State.{layoutOf, layoutFields, oddFlag, Numbers, machineOf, numbersOf}
-use Rattle.embed.specs.Instruction.{rowAt, placeOf, fieldsOf, writingOf}
+use Rattle.definition.specs.Calls.{stepRefusal, runRefusal}
+use Rattle.numbers.specs.State.{oddFlag, Numbers}
 use Rattle.embed.specs.Calls.{stepOn, runOn}
 
--- a layout handed back and read again is the same layout
-unfoldable pub LayoutAgain : Type 0
-LayoutAgain = (L : Layout) → layoutOf (layoutFields L) ≡ L
-
--- a machine of a frame, handed back and read again, is the same machine
-unfoldable pub MachineAgain : Type 0
-MachineAgain = (L : Layout) (m : Machine) → framed L m ≡ true → machineOf (numbersOf m) ≡ m
-
--- where halted or held is neither 0 nor 1, the numbers are of no frame
-unfoldable pub OddFlagUnframed : Type 0
-OddFlagUnframed = (L : Layout) (n : Numbers) → oddFlag (n .control) ≡ true → framed L (machineOf n) ≡ false
-
--- so step and run refuse them
+-- where halted or held is neither 0 nor 1, step and run refuse the numbers
 unfoldable pub OddFlagRefused : Type 0
 OddFlagRefused =
     (n : Numbers) (mem layout stamps : List ℕ) → oddFlag (n .control) ≡ true
     → (stepRefusal (stepOn n mem layout stamps .answer) ≡ 0 → ⊥)
     × ((budget : ℕ) → runRefusal (runOn n mem layout stamps budget .answer) ≡ 0 → ⊥)
-
--- each row stands at its place
-unfoldable pub RowAtPlace : Type 0
-RowAtPlace = (r : Row) → rowAt (placeOf r) ≡ Is r
-
--- the four numbers of an instruction are written as the instruction is
-unfoldable pub FieldsWritten : Type 0
-FieldsWritten = (i : Instruction) → writingOf (fieldsOf i) ≡ writing i

@@ -4,7 +4,7 @@ use mathlib.Core.List.{List, []}
 use Rattle.base.specs.Refusal.{refusalNumber}
 use Rattle.sheet.specs.declared.reader.Answer.{Answer}
 use Rattle.sheet.specs.declared.reader.Answer.the-variants.{Read, Refused}
-use Rattle.embed.specs.State.{layoutFields}
+use Rattle.numbers.specs.State.{layoutFields}
 
 -- the number of the refusal, 0 where there is none
 abbrev pub sheetRefusal : Answer → ℕ

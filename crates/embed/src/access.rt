@@ -1,35 +1,13 @@
 // The access question.
 ghost use mathlib.Core.Path.{_≡_};
-ghost use Prim.Native.Nat.{_≤_};
 ghost use Rattle.layout.specs.declared.access.Right.{Right as RIGHT};
-ghost use Rattle.layout.specs.Access.{may, accessAnswer, accessRefusal};
+ghost use Rattle.layout.specs.Access.{accessAnswer, accessRefusal};
+ghost use Rattle.numbers.specs.State.{layoutOf};
+ghost use Rattle.numbers.specs.Access.{rightsOf};
 ghost use Rattle.embed.specs.Kept.{unlessRefused};
-ghost use Rattle.embed.specs.State.{layoutOf};
-ghost use Rattle.embed.specs.Access.{weightIf, rightsOf};
-use crate::state::layout_of;
 use base::refusal::Refusal;
-use layout::access::Right;
-use layout::sections::Layout;
-
-// This weight, if the layout allows it; else 0.
-fn weight_of(layout: Layout, from: u16, right: Right, a: u16, weight: u8) -> u8
-    ensures { λ r. ⌜ (r ≡ weightIf (may layout from right a) weight) × (r ≤ weight) ⌝ }
-{
-    if layout.may(from, right, a) {
-        return weight;
-    }
-    0
-}
-
-// What an instruction at `from` may do to the byte at `a`: execute 1, read 2, write 4, or a sum of those.
-fn rights_of(layout: Layout, from: u16, a: u16) -> u8
-    ensures { λ r. ⌜ r ≡ rightsOf layout from a ⌝ }
-{
-    let execute = weight_of(layout, from, Right::Execute, a, 1);
-    let read = weight_of(layout, from, Right::Read, a, 2);
-    let write = weight_of(layout, from, Right::Write, a, 4);
-    execute + read + write
-}
+use numbers::access::rights_of;
+use numbers::state::layout_of;
 
 // The access question for all three rights at once, or refusal 2.
 #[no_mangle]

@@ -1,20 +1,20 @@
 // Start, step and run. Each answers 0, or the number of the refusal, which leaves all that is lent as it came.
 ghost use mathlib.Core.Path.{_≡_};
-ghost use Rattle.machine.specs.Calls.{startCall, startRefusal, stepRefusal, runRefusal};
+ghost use Rattle.definition.specs.Calls.{startCall, startRefusal, stepRefusal, runRefusal};
+ghost use Rattle.numbers.specs.State.{numbers, numbersOf};
 ghost use Rattle.embed.specs.Kept.{unlessRefused};
-ghost use Rattle.embed.specs.State.{controlFields, timeFields, numbers, numbersOf};
 ghost use Rattle.embed.specs.Calls.{stepOn, runOn, causeOf, stepKind, stepCause, runEnd, runSteps};
-use crate::state::control_fields;
-use crate::state::control_of;
-use crate::state::layout_of;
-use crate::state::machine_of;
-use crate::state::time_fields;
-use machine::answer::Outcome;
-use machine::answer::RunAnswer;
-use machine::answer::StartAnswer;
-use machine::answer::StepAnswer;
-use machine::state::Control;
-use machine::state::Machine;
+use definition::answer::Outcome;
+use definition::answer::RunAnswer;
+use definition::answer::StartAnswer;
+use definition::answer::StepAnswer;
+use machine::calls::Machine;
+use machine::calls::lent_step;
+use numbers::state::control_of;
+use numbers::state::hand_back;
+use numbers::state::hand_control;
+use numbers::state::layout_of;
+use numbers::state::machine_of;
 
 // The number of a step's cause, 0 where it is no reset.
 fn cause_of(outcome: Outcome) -> u8
@@ -31,34 +31,6 @@ fn cause_of(outcome: Outcome) -> u8
     }
 }
 
-// Hands back in the caller's numbers what a machine has beside its registers.
-fn hand_control(rest: Control, control: &mut [u16; 5], time: &mut [u64; 3])
-    ensures { λ _. ⌜ now (control .exit) ≡ controlFields (rest .previous) (rest .halted) (rest .visit) ⌝ }
-    ensures { λ _. ⌜ now (time .exit) ≡ timeFields (rest .time) ⌝ }
-{
-    let visit = rest.visit;
-    let t = rest.time;
-    *control = control_fields(rest.previous, rest.halted, visit);
-    *time = time_fields(t);
-}
-
-// Hands a machine back in the caller's numbers.
-fn hand_back(
-    m: Machine,
-    registers: &mut [u16; 16],
-    saved: &mut [u16; 16],
-    control: &mut [u16; 5],
-    time: &mut [u64; 3],
-)
-    ensures { λ _. ⌜ numbers (now (registers .exit)) (now (saved .exit)) (now (control .exit)) (now (time .exit)) ≡ numbersOf m ⌝ }
-{
-    let current = m.registers;
-    let held = m.saved;
-    *registers = current;
-    *saved = held;
-    hand_control(m.control(), control, time);
-}
-
 // The start state of a memory.
 #[no_mangle]
 pub extern "C" fn enclave_start(
@@ -72,7 +44,7 @@ pub extern "C" fn enclave_start(
     ensures machine { λ r. ⌜ numbers (now (registers .exit)) (now (saved .exit)) (now (control .exit)) (now (time .exit)) ≡ unlessRefused r (numbersOf (startCall (now (mem .entry)) .machine)) (numbers (now (registers .entry)) (now (saved .entry)) (now (control .entry)) (now (time .entry))) ⌝ }
 {
     let done = Machine::start(mem);
-    let m = done.machine;
+    let m = done.machine.0;
     let answer = done.answer;
     match answer {
         StartAnswer::Refused(refusal) => refusal.number(),
@@ -103,7 +75,7 @@ pub extern "C" fn enclave_step(
     ensures cause { λ r. ⌜ now (cause .exit) ≡ unlessRefused r (stepCause (stepOn (numbers (now (registers .entry)) (now (saved .entry)) (now (control .entry)) (now (time .entry))) (now (mem .entry)) (now (layout .entry)) (now (stamps .entry)) .answer)) (now (cause .entry)) ⌝ }
 {
     let rest = control_of(*control, *time);
-    let done = rest.step(registers, saved, mem, layout_of(*layout), stamps);
+    let done = lent_step(rest, registers, saved, mem, layout_of(*layout), stamps);
     let next = done.control;
     let answer = done.answer;
     match answer {
@@ -137,9 +109,9 @@ pub extern "C" fn enclave_run(
     ensures end { λ r. ⌜ now (end .exit) ≡ unlessRefused r (runEnd (runOn (numbers (now (registers .entry)) (now (saved .entry)) (now (control .entry)) (now (time .entry))) (now (mem .entry)) (now (layout .entry)) (now (stamps .entry)) budget .answer)) (now (end .entry)) ⌝ }
     ensures steps { λ r. ⌜ now (steps .exit) ≡ unlessRefused r (runSteps (runOn (numbers (now (registers .entry)) (now (saved .entry)) (now (control .entry)) (now (time .entry))) (now (mem .entry)) (now (layout .entry)) (now (stamps .entry)) budget .answer)) (now (steps .entry)) ⌝ }
 {
-    let m = machine_of(*registers, *saved, *control, *time);
+    let m = Machine(machine_of(*registers, *saved, *control, *time));
     let done = m.run(mem, layout_of(*layout), stamps, budget);
-    let last = done.machine;
+    let last = done.machine.0;
     let answer = done.answer;
     match answer {
         RunAnswer::Refused(refusal) => refusal.number(),

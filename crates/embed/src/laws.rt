@@ -1,32 +1,7 @@
-// What is claimed of the numbers that a caller lends: each claim is the contract of a function with nothing to do.
-ghost use Rattle.embed.specs.Laws.{LayoutAgain, MachineAgain, OddFlagUnframed, OddFlagRefused, RowAtPlace, FieldsWritten};
+// What is claimed of calls on the numbers that a caller lends: a contract of a function with nothing to do.
+ghost use Rattle.embed.specs.Laws.{OddFlagRefused};
 
-// A layout handed back and read again is the same layout.
-pub fn layout_again()
-    ensures { λ _. ⌜ LayoutAgain ⌝ }
-{}
-
-// A machine of a frame, handed back and read again, is the same machine.
-pub fn machine_again()
-    ensures { λ _. ⌜ MachineAgain ⌝ }
-{}
-
-// Where `halted` or `held` is neither 0 nor 1, the numbers are of no frame.
-pub fn odd_flag_unframed()
-    ensures { λ _. ⌜ OddFlagUnframed ⌝ }
-{}
-
-// So step and run refuse them.
+// Where `halted` or `held` is neither 0 nor 1, step and run refuse the numbers.
 pub fn odd_flag_refused()
     ensures { λ _. ⌜ OddFlagRefused ⌝ }
-{}
-
-// Each row of the table of instruction words stands at its place.
-pub fn row_at_place()
-    ensures { λ _. ⌜ RowAtPlace ⌝ }
-{}
-
-// The four numbers of an instruction are written as the instruction is.
-pub fn fields_written()
-    ensures { λ _. ⌜ FieldsWritten ⌝ }
 {}

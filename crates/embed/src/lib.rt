@@ -4,4 +4,3 @@ pub mod calls;
 pub mod instruction;
 pub mod laws;
 pub mod setup;
-mod state;

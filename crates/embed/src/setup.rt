@@ -4,7 +4,7 @@ ghost use lib.Seq.{sets};
 ghost use Rattle.sheet.specs.Sheet.{sheetAnswer, sheetMemory, sheetStamps};
 ghost use Rattle.embed.specs.Kept.{unlessRefused};
 ghost use Rattle.embed.specs.Setup.{sheetRefusal, refusedLine, setLayout, setCount, setBudget};
-use crate::state::layout_fields;
+use numbers::state::layout_fields;
 use sheet::reader::Answer;
 use sheet::reader::read_sheet;
 use sheet::setup::load_memory;

@@ -4,7 +4,7 @@ use Rattle.base.proofs.Tests.{fails, holds}
 use Rattle.layout.specs.declared.sections.Layout.{Layout}
 use Rattle.layout.specs.declared.access.Right.{Right}
 use Rattle.layout.specs.Rules.{accepted}
-use Rattle.embed.specs.Access.{rightsOf}
+use Rattle.numbers.specs.Access.{rightsOf}
 use Rattle.embed.proofs.AccessLaws.{access-taken, access-refused}
 use Rattle.embed.proofs.KeptLaws.{kept, given}
 use borrow.Author.Needs.{needs}

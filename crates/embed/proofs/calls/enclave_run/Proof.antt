@@ -1,5 +1,5 @@
 use denote.Ref.{now}
-use Rattle.embed.specs.State.{numbers}
+use Rattle.numbers.specs.State.{numbers}
 use Rattle.embed.proofs.CallLaws.{run-refused, run-taken}
 use borrow.Author.Needs.{needs}
 use Rattle.embed.proofs.calls.enclave_run.Statement.{statement}

@@ -1,6 +1,7 @@
 use denote.Ref.{now}
-use Rattle.embed.specs.State.{numbers}
-use Rattle.embed.proofs.CallLaws.{lent-machine, lent-numbers, lent-untouched, step-refused, step-taken}
+use Rattle.numbers.specs.State.{numbers}
+use Rattle.numbers.proofs.LentLaws.{lent-machine, lent-numbers}
+use Rattle.embed.proofs.CallLaws.{lent-untouched, step-refused, step-taken}
 use borrow.Author.Needs.{needs}
 use Rattle.embed.proofs.calls.enclave_step.Statement.{statement}
 use Rattle.embed.proofs.calls.enclave_step.Tie as tie
@@ -11,8 +12,8 @@ control-of-requires c κs = search needs
 layout-of-requires : tie.Need-layout-of-requires
 layout-of-requires c κs = search needs
 
-step-requires : tie.Need-step-requires
-step-requires c κs = search needs
+lent-step-requires : tie.Need-lent-step-requires
+lent-step-requires c κs = search needs
 
 enum-known-answer : tie.Need-enum-known-answer
 enum-known-answer c = search needs
@@ -38,7 +39,7 @@ same-length c = search needs
 returns : tie.Need-returns
 returns c =
     let a = c .before .before .before .before .before .before .before .before .before .before .before .before .before .before .before .before .before .before .args in
-    let s = c .before .before .before .before .before .before .before .step .ensures in
+    let s = c .before .before .before .before .before .before .before .lent-step .ensures in
     step-refused (numbers (now (a .registers)) (now (a .saved)) (now (a .control)) (now (a .time))) _ _ _ _ (c .before .before .before .before .before .before .before .before .layout-of .ensures) _
     (lent-machine (now (a .registers)) (now (a .saved)) (now (a .control)) (now (a .time)) _ (c .before .before .before .before .before .before .before .before .before .before .before .before .before .control-of .ensures)) _ _ (s .0) (s .1 .0)
     (c .before .before .answer .given .0 .0) (c .before .before .answer .given .1) _ (c .number .ensures) _
@@ -50,7 +51,7 @@ same-length-2 c = search needs
 returns-2 : tie.Need-returns-2
 returns-2 c =
     let a = c .before .before .before .before .before .before .before .before .before .before .before .before .before .before .before .before .before .before .before .before .before .before .args in
-    let s = c .before .before .before .before .before .before .before .before .before .before .before .step .ensures in
+    let s = c .before .before .before .before .before .before .before .before .before .before .before .lent-step .ensures in
     let h = c .before .before .hand-control .ensures in
     step-taken (numbers (now (a .registers)) (now (a .saved)) (now (a .control)) (now (a .time))) _ _ _ _ (c .before .before .before .before .before .before .before .before .before .before .before .before .layout-of .ensures) _
     (lent-machine (now (a .registers)) (now (a .saved)) (now (a .control)) (now (a .time)) _ (c .before .before .before .before .before .before .before .before .before .before .before .before .before .before .before .before .before .control-of .ensures)) _ _ (s .0) (s .1 .0)
@@ -63,7 +64,7 @@ enclave-step-spec =
     (tie.spec
     control-of-requires
     layout-of-requires
-    step-requires
+    lent-step-requires
     enum-known-answer
     number-requires
     enum-known-answer-2

@@ -1,9 +1,0 @@
-use Rattle.embed.proofs.RowLaws.{fields-written}
-use Rattle.embed.proofs.laws.fields_written.Statement.{statement}
-use Rattle.embed.proofs.laws.fields_written.Tie as tie
-
-returns : tie.Need-returns
-returns c = fields-written
-
-pub fields-written-spec : {M : Type 1} → statement M
-fields-written-spec = tie.close (tie.spec returns)

@@ -1,0 +1,4 @@
+pub mod LentLaws
+pub mod NumberLaws
+pub mod FlagLaws
+pub mod RowLaws

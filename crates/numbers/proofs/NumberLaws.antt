@@ -1,0 +1,74 @@
+-- What is handed back in a caller's numbers is read again as it was. Assumes nothing.
+use mathlib.Core.Path.{_≡_, refl}
+use mathlib.Core.Bool.{Bool, true, false, not}
+use mathlib.Core.List.{List}
+use Prim.Native.Nat.{ℕ, _<_, _≤_}
+use native.Mathlib.Omega.{arith}
+use lib.Dec.{eqb}
+use lib.ListN.{getD}
+use borrow.Author.Tests.{ltb-true, leb-true, le-ltb, ne-eqb}
+use Rattle.base.specs.Test.{if_then_else_, any}
+use Rattle.base.proofs.Tests.{each, if-false}
+use Rattle.layout.specs.declared.sections.Layout.{Layout}
+use Rattle.definition.specs.declared.state.Stamp.{Stamp}
+use Rattle.definition.specs.declared.state.Stamp.the-variants.{Never, At}
+use Rattle.definition.specs.declared.state.Visit.{Visit}
+use Rattle.definition.specs.declared.state.Visit.the-variants.{Free, Held}
+use Rattle.definition.specs.State.{framedSlot, framedAlarm, framedVisit}
+use Rattle.definition.proofs.frame.FrameLaws.{frame-parts}
+use Rattle.numbers.specs.State.{layoutOf, layoutFields, stampOf, stampNumber, timeOf, timeFields, byteOf, oddFlag, visitOf, controlFields, machineOf, numbersOf}
+use Rattle.numbers.specs.Laws.{LayoutAgain, MachineAgain}
+
+pub layout-again : LayoutAgain
+unfolding LayoutAgain layoutOf layoutFields
+layout-again L = refl
+
+-- a stamp that is not 0
+stamp-again : (n : ℕ) → 0 < n → stampOf n ≡ At n
+unfolding stampOf
+stamp-again n h = if-false _ _ _ (ne-eqb n 0 (λ e. omega (arith, e)))
+
+slot-again : (clock : ℕ) (s : Stamp) → framedSlot clock s ≡ true → stampOf (stampNumber s) ≡ s
+unfolding stampOf if_then_else_
+slot-again clock Never h = refl
+slot-again clock (At s) h = stamp-again s (ltb-true _ _ (each _ h .0))
+
+alarm-again : (clock : ℕ) (s : Stamp) → framedAlarm clock s ≡ true → stampOf (stampNumber s) ≡ s
+unfolding stampOf if_then_else_
+alarm-again clock Never h = refl
+alarm-again clock (At s) h = let l : clock < s = ltb-true _ _ h in stamp-again s (omega arith)
+
+-- an age of a frame has 8 bits
+age-again : (age : ℕ) → age ≤ 6 → byteOf age ≡ age
+unfolding byteOf
+age-again age h = if-false _ _ _ (le-ltb 255 age (omega arith))
+
+visit-again : (L : Layout) (saved : List ℕ) (previous : ℕ) (halted : Bool) (v : Visit) → framedVisit L saved v ≡ true
+    → visitOf (controlFields previous halted v) ≡ v
+unfolding visitOf oddFlag any if_then_else_
+visit-again L saved previous true Free h = refl
+visit-again L saved previous false Free h = refl
+visit-again L saved previous true (Held p age) h = rw (age-again age (leb-true _ _ (each _ h .0)))
+visit-again L saved previous false (Held p age) h = rw (age-again age (leb-true _ _ (each _ h .0)))
+
+halted-again : (previous : ℕ) (halted : Bool) (v : Visit) → not (eqb (getD (controlFields previous halted v) 1 0) 0) ≡ halted
+halted-again previous true Free = refl
+halted-again previous false Free = refl
+halted-again previous true (Held p age) = refl
+halted-again previous false (Held p age) = refl
+
+previous-again : (previous : ℕ) (halted : Bool) (v : Visit) → getD (controlFields previous halted v) 0 0 ≡ previous
+previous-again previous halted Free = refl
+previous-again previous halted (Held p age) = refl
+
+pub machine-again : MachineAgain
+unfolding MachineAgain machineOf numbersOf timeOf timeFields
+machine-again L m h =
+    let f = frame-parts L m h in
+    simp (
+      previous-again (m .previous) (m .halted) (m .visit),
+      halted-again (m .previous) (m .halted) (m .visit),
+      visit-again L (m .saved) (m .previous) (m .halted) (m .visit) (f .visit),
+      slot-again (m .time .clock) (m .time .slot) (f .time .slot),
+      alarm-again (m .time .clock) (m .time .alarm) (f .time .alarm),
+    )

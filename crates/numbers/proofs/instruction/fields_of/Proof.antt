@@ -1,0 +1,24 @@
+use Rattle.numbers.specs.Instruction.{fieldsOf}
+use borrow.Author.Needs.{needs}
+use Rattle.numbers.proofs.instruction.fields_of.Statement.{statement}
+use Rattle.numbers.proofs.instruction.fields_of.Tie as tie
+
+encoding-of-requires : tie.Need-encoding-of-requires
+encoding-of-requires c κs = search needs
+
+place-of-requires : tie.Need-place-of-requires
+place-of-requires c κs = search needs
+
+cast-t5 : tie.Need-cast-t5
+cast-t5 c = search needs
+
+cast-t6 : tie.Need-cast-t6
+cast-t6 c = search needs
+
+returns : tie.Need-returns
+unfolding fieldsOf
+returns c = simp (c .before .before .place-of .ensures, c .before .before .before .encoding-of .ensures)
+
+pub fields-of-spec : {M : Type 1} → statement M
+fields-of-spec =
+    tie.close (tie.spec encoding-of-requires place-of-requires cast-t5 cast-t6 returns)

@@ -1,0 +1,64 @@
+-- One instruction in four numbers: its place among the rows of document 01's table, source, destination, constant.
+use Prim.Native.Nat.{ℕ}
+use mathlib.Core.List.{List, [], _∷_}
+use lib.Dec.{ltb}
+use lib.ListN.{getD}
+use Rattle.base.specs.Test.{if_then_else_}
+use Rattle.base.specs.declared.refusal.Refusal.the-variants.{Word}
+use Rattle.isa.specs.declared.instruction.Operation.{Operation}
+use Rattle.isa.specs.declared.instruction.Operation.the-variants.{Add, Sub, Cmp, And}
+use Rattle.isa.specs.declared.instruction.Instruction.{Instruction}
+use Rattle.isa.specs.declared.table.Row.{Row}
+use Rattle.isa.specs.declared.table.Row.the-variants.{Hlt as HLT, In as IN, Out as OUT, Jz as JZ, Reti as RETI, Nop as NOP, Jmp as JMP, Mov as MOV, Load as LOAD, Store as STORE, Immediate as IMMEDIATE, Compute as COMPUTE, Not as NOT}
+use Rattle.isa.specs.declared.table.Encoding.{Encoding}
+use Rattle.isa.specs.declared.write.Writing.{Writing}
+use Rattle.isa.specs.declared.write.Writing.the-variants.{Refused as Unwritten}
+use Rattle.isa.specs.Table.{rows, instructionOf, encodingOf}
+use Rattle.isa.specs.Words.{writing}
+use Rattle.numbers.specs.declared.instruction.Numbered.{Numbered}
+use Rattle.numbers.specs.declared.instruction.Numbered.the-variants.{Is, Nothing}
+use Rattle.numbers.specs.State.{byteOf}
+
+-- the row at a place of document 01's list, from 0; there are sixteen
+unfoldable pub rowAt : ℕ → Numbered
+rowAt n = if ltb n 16 then Is (getD rows n HLT) else Nothing
+
+-- the place of an operation's row
+abbrev pub operationPlace : Operation → ℕ
+operationPlace Add = 11
+operationPlace Sub = 12
+operationPlace Cmp = 13
+operationPlace And = 14
+
+-- the place of a row
+abbrev pub placeOf : Row → ℕ
+placeOf HLT = 0
+placeOf IN = 1
+placeOf OUT = 2
+placeOf JZ = 3
+placeOf RETI = 4
+placeOf NOP = 5
+placeOf JMP = 6
+placeOf MOV = 7
+placeOf LOAD = 8
+placeOf STORE = 9
+placeOf IMMEDIATE = 10
+placeOf (COMPUTE o) = operationPlace o
+placeOf NOT = 15
+
+-- the four numbers of an encoding
+abbrev pub encodingFields : Encoding → List ℕ
+encodingFields e = placeOf (e .row) ∷ e .source ∷ e .destination ∷ e .word ∷ []
+
+-- the four numbers of an instruction
+unfoldable pub fieldsOf : Instruction → List ℕ
+fieldsOf i = encodingFields (encodingOf i)
+
+-- the words of what stands at a place, with two registers and a constant; where no row stands there, refusal 9
+abbrev pub writingAt : Numbered → ℕ → ℕ → ℕ → Writing
+writingAt Nothing s d w = Unwritten Word
+writingAt (Is row) s d w = writing (instructionOf row s d w)
+
+-- the words of four numbers, or refusal 9
+unfoldable pub writingOf : List ℕ → Writing
+writingOf fields = writingAt (rowAt (getD fields 0 0)) (byteOf (getD fields 1 0)) (byteOf (getD fields 2 0)) (getD fields 3 0)

@@ -1,0 +1,5 @@
+pub mod State
+pub mod internal
+pub mod Access
+pub mod Instruction
+pub mod Laws

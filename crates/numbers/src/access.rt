@@ -1,0 +1,27 @@
+// The access question for all three rights at once, as one number.
+ghost use mathlib.Core.Path.{_≡_};
+ghost use Prim.Native.Nat.{_≤_};
+ghost use Rattle.layout.specs.Access.{may};
+ghost use Rattle.numbers.specs.Access.{weightIf, rightsOf};
+use layout::access::Right;
+use layout::sections::Layout;
+
+// This weight, if the layout allows it; else 0.
+fn weight_of(layout: Layout, from: u16, right: Right, a: u16, weight: u8) -> u8
+    ensures { λ r. ⌜ (r ≡ weightIf (may layout from right a) weight) × (r ≤ weight) ⌝ }
+{
+    if layout.may(from, right, a) {
+        return weight;
+    }
+    0
+}
+
+// What an instruction at `from` may do to the byte at `a`: execute 1, read 2, write 4, or a sum of those.
+pub fn rights_of(layout: Layout, from: u16, a: u16) -> u8
+    ensures { λ r. ⌜ r ≡ rightsOf layout from a ⌝ }
+{
+    let execute = weight_of(layout, from, Right::Execute, a, 1);
+    let read = weight_of(layout, from, Right::Read, a, 2);
+    let write = weight_of(layout, from, Right::Write, a, 4);
+    execute + read + write
+}
