@@ -7,7 +7,7 @@ use input::Input;
 use sheet::reader::Answer;
 use sheet::reader::read_sheet;
 use sheet::setup::load_memory;
-use sheet::transcript;
+use transcript::line::refusal_line;
 
 // Reads the sheet whole, and plays it or prints its refusal.
 fn main() {
@@ -23,7 +23,7 @@ fn main() {
     let text: &[u8] = &sheet[0..n];
     match read_sheet(text) {
         Answer::Refused(refusal, line) => {
-            let k = transcript::refusal_line(&mut out, refusal, line);
+            let k = refusal_line(&mut out, refusal, line);
             output::flush(&out, k);
         }
         Answer::Read(setup) => {

@@ -1,24 +1,27 @@
 // A sheet's run: a line for each step, and the last line.
 use crate::output;
 use crate::output::Page;
+use definition::answer::End;
+use definition::answer::Outcome;
+use definition::answer::StepAnswer;
+use definition::state::State;
 use layout::sections::Layout;
-use machine::answer::End;
-use machine::answer::Outcome;
-use machine::answer::StepAnswer;
-use machine::state::Machine;
+use machine::calls::Machine;
 use sheet::reader::Setup;
 use sheet::setup::load_stamps;
-use sheet::transcript;
+use transcript::line::end_line;
+use transcript::line::header_line;
+use transcript::line::step_line;
 
 // Puts a step's line behind what is filled.
-fn put_step(out: &mut [u8], filled: usize, n: u64, kind: Outcome, m: Machine) -> Page {
+fn put_step(out: &mut [u8], filled: usize, n: u64, kind: Outcome, m: State) -> Page {
     let end = out.len();
     if end < filled {
         return Page::Lost;
     }
     let clock = m.time.clock;
     let registers = m.registers;
-    let k = transcript::step_line(
+    let k = step_line(
         &mut out[filled..end],
         n,
         kind,
@@ -35,17 +38,17 @@ fn put_end(out: &mut [u8], filled: usize, ending: End, steps: u64, clock: u64) {
     if end < filled {
         return;
     }
-    let k = transcript::end_line(&mut out[filled..end], ending, steps, clock);
+    let k = end_line(&mut out[filled..end], ending, steps, clock);
     output::flush(out, filled + k);
 }
 
 // The clock is above 2^62.
-fn is_late(m: Machine) -> bool {
+fn is_late(m: State) -> bool {
     m.time.clock > 0x4000_0000_0000_0000
 }
 
 // Why a run stops here.
-fn ending(m: Machine) -> End {
+fn ending(m: State) -> End {
     if m.halted {
         return End::Halted;
     }
@@ -56,7 +59,7 @@ fn ending(m: Machine) -> End {
 }
 
 // A run goes on from here.
-fn goes_on(m: Machine) -> bool {
+fn goes_on(m: State) -> bool {
     if m.halted {
         return false;
     }
@@ -64,7 +67,7 @@ fn goes_on(m: Machine) -> bool {
 }
 
 // Whether a line fits, and then the line.
-fn step_page(out: &mut [u8], page: Page, n: u64, kind: Outcome, m: Machine) -> Page {
+fn step_page(out: &mut [u8], page: Page, n: u64, kind: Outcome, m: State) -> Page {
     let Page::Filled(filled) = page else {
         return Page::Lost;
     };
@@ -75,7 +78,7 @@ fn step_page(out: &mut [u8], page: Page, n: u64, kind: Outcome, m: Machine) -> P
 }
 
 // The last line, where nothing was lost.
-fn end_page(out: &mut [u8], page: Page, m: Machine, steps: u64) {
+fn end_page(out: &mut [u8], page: Page, m: State, steps: u64) {
     let Page::Filled(filled) = page else {
         return;
     };
@@ -89,9 +92,9 @@ fn end_page(out: &mut [u8], page: Page, m: Machine, steps: u64) {
 fn steps(m: Machine, mem: &mut [u8], layout: Layout, stamps: &[u64], budget: u64, out: &mut [u8]) {
     let mut current = m;
     let mut n: u64 = 0;
-    let mut page = Page::Filled(transcript::header_line(out));
+    let mut page = Page::Filled(header_line(out));
     while n < budget {
-        if !goes_on(current) {
+        if !goes_on(current.0) {
             break;
         }
         let stepped = current.step(mem, layout, stamps);
@@ -101,11 +104,11 @@ fn steps(m: Machine, mem: &mut [u8], layout: Layout, stamps: &[u64], budget: u64
             return;
         };
         n += 1;
-        let further = step_page(out, page, n, kind, next);
+        let further = step_page(out, page, n, kind, next.0);
         current = next;
         page = further;
     }
-    end_page(out, page, current, n);
+    end_page(out, page, current.0, n);
 }
 
 // The run of a sheet, from the start of its memory; its timetable is put into what is lent for it.

@@ -2,11 +2,12 @@
 use crate::print;
 use crate::show;
 use crate::world::World;
-use machine::answer::Outcome;
-use machine::answer::RunAnswer;
-use machine::answer::StartAnswer;
-use machine::answer::StepAnswer;
-use machine::state::Machine;
+use definition::answer::Outcome;
+use definition::answer::RunAnswer;
+use definition::answer::StartAnswer;
+use definition::answer::StepAnswer;
+use definition::state::State;
+use machine::calls::Machine;
 
 // What cannot be read or done is answered by a question mark.
 pub fn unknown(w: World) -> World {
@@ -14,9 +15,9 @@ pub fn unknown(w: World) -> World {
     w
 }
 
-// The world with another machine.
-fn with_machine(w: World, m: Machine) -> World {
-    World { machine: m, ..w }
+// The world with another state.
+fn with_state(w: World, s: State) -> World {
+    World { state: s, ..w }
 }
 
 // The kind, and for a reset the number of its cause.
@@ -61,14 +62,14 @@ pub fn start(w: World, mem: &[u8]) -> World {
         return unknown(w);
     }
     let started = Machine::start(&mem[0..bytes]);
-    let next = started.machine;
+    let next = started.machine.0;
     let answer = started.answer;
     print::text(b"S");
     match answer {
         StartAnswer::Made => {
             print::text(b" ok");
             show::state(next, mem);
-            with_machine(w, next)
+            with_state(w, next)
         }
         StartAnswer::Refused(r) => {
             print::refusal(r.number());
@@ -82,7 +83,8 @@ pub fn start(w: World, mem: &[u8]) -> World {
 pub fn step(w: World, mem: &mut [u8], stamps: &[u64]) -> World {
     let bytes = w.bytes;
     let count = w.stamps;
-    let m = w.machine;
+    let state = w.state;
+    let m = Machine(state);
     let layout = w.layout;
     if mem.len() < bytes {
         return unknown(w);
@@ -91,18 +93,19 @@ pub fn step(w: World, mem: &mut [u8], stamps: &[u64]) -> World {
         return unknown(w);
     }
     let stepped = m.step(&mut mem[0..bytes], layout, &stamps[0..count]);
-    let next = stepped.machine;
+    let next = stepped.machine.0;
     let answer = stepped.answer;
     show_step(answer);
     show::state(next, mem);
-    with_machine(w, next)
+    with_state(w, next)
 }
 
 // Run with a budget.
 pub fn run(w: World, mem: &mut [u8], stamps: &[u64], budget: u64) -> World {
     let bytes = w.bytes;
     let count = w.stamps;
-    let m = w.machine;
+    let state = w.state;
+    let m = Machine(state);
     let layout = w.layout;
     if mem.len() < bytes {
         return unknown(w);
@@ -111,9 +114,9 @@ pub fn run(w: World, mem: &mut [u8], stamps: &[u64], budget: u64) -> World {
         return unknown(w);
     }
     let ran = m.run(&mut mem[0..bytes], layout, &stamps[0..count], budget);
-    let next = ran.machine;
+    let next = ran.machine.0;
     let answer = ran.answer;
     show_run(answer);
     show::state(next, mem);
-    with_machine(w, next)
+    with_state(w, next)
 }

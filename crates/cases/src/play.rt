@@ -9,11 +9,11 @@ use crate::stamps;
 use crate::world;
 use crate::world::World;
 
-// The world with another machine, by the part of the state that the line names.
+// The world with another state, by the part of the state that the line names.
 fn overwrite(w: World, l: Line) -> World {
-    let m = w.machine;
+    let m = w.state;
     let next = world::overwritten(m, l);
-    World { machine: next, ..w }
+    World { state: next, ..w }
 }
 
 // A new world, and no byte but 0 in memory.

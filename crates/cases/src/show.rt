@@ -1,10 +1,10 @@
 // The state of the machine on a line.
 use crate::memory;
 use crate::print;
-use machine::state::Machine;
-use machine::state::Stamp;
-use machine::state::Time;
-use machine::state::Visit;
+use definition::state::Stamp;
+use definition::state::State;
+use definition::state::Time;
+use definition::state::Visit;
 
 // Sixteen words.
 fn registers(words: [u16; 16]) {
@@ -66,7 +66,7 @@ pub fn sums(mem: &[u8]) {
 }
 
 // The rest of the line: the state and the memory's sums.
-pub fn state(m: Machine, mem: &[u8]) {
+pub fn state(m: State, mem: &[u8]) {
     let words = m.registers;
     let saved = m.saved;
     let time = m.time;

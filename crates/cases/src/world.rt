@@ -3,24 +3,24 @@ use crate::line::Line;
 use crate::words::byte;
 use crate::words::set;
 use crate::words::word;
+use definition::state::Stamp;
+use definition::state::State;
+use definition::state::Time;
+use definition::state::Visit;
 use layout::sections::Layout;
 use layout::sections::Span;
-use machine::state::Machine;
-use machine::state::Stamp;
-use machine::state::Time;
-use machine::state::Visit;
 
 // The world of a call. The bytes and the stamps themselves stand in buffers beside it.
 pub struct World {
-    pub machine: Machine,
+    pub state: State,
     pub layout: Layout,
     pub bytes: usize,
     pub stamps: usize,
 }
 
 // Nothing but 0 in the state, and the previous address FFFE.
-fn zero_machine() -> Machine {
-    Machine {
+fn zero_state() -> State {
+    State {
         registers: [0; 16],
         previous: 0xfffe,
         time: Time {
@@ -52,7 +52,7 @@ pub fn layout_of(fields: [u64; 8]) -> Layout {
 // A new world, with the layout of document 01's sheet.
 pub fn new_world() -> World {
     World {
-        machine: zero_machine(),
+        state: zero_state(),
         layout: layout_of([0x8000, 0x8008, 0x8100, 0x8104, 0x4500, 0, 0, 0]),
         bytes: 65536,
         stamps: 0,
@@ -60,49 +60,49 @@ pub fn new_world() -> World {
 }
 
 // The machine with another time.
-fn with_time(m: Machine, t: Time) -> Machine {
-    Machine { time: t, ..m }
+fn with_time(m: State, t: Time) -> State {
+    State { time: t, ..m }
 }
 
 // The machine with another slot.
-fn with_slot(m: Machine, s: Stamp) -> Machine {
+fn with_slot(m: State, s: Stamp) -> State {
     let t = m.time;
     with_time(m, Time { slot: s, ..t })
 }
 
 // The machine with another alarm.
-fn with_alarm(m: Machine, s: Stamp) -> Machine {
+fn with_alarm(m: State, s: Stamp) -> State {
     let t = m.time;
     with_time(m, Time { alarm: s, ..t })
 }
 
 // The machine with another clock.
-fn with_clock(m: Machine, n: u64) -> Machine {
+fn with_clock(m: State, n: u64) -> State {
     let t = m.time;
     with_time(m, Time { clock: n, ..t })
 }
 
 // The machine with one register set.
-fn with_register(m: Machine, n: u64, w: u64) -> Machine {
+fn with_register(m: State, n: u64, w: u64) -> State {
     let old = m.registers;
     let next = set(old, n, w);
-    Machine {
+    State {
         registers: next,
         ..m
     }
 }
 
 // The machine with one register of the saved copy set.
-fn with_saved(m: Machine, n: u64, w: u64) -> Machine {
+fn with_saved(m: State, n: u64, w: u64) -> State {
     let old = m.saved;
     let next = set(old, n, w);
-    Machine { saved: next, ..m }
+    State { saved: next, ..m }
 }
 
 // A visit is held, its registers 0 but for GIE.
-fn with_held(m: Machine, previous: u64, age: u64) -> Machine {
+fn with_held(m: State, previous: u64, age: u64) -> State {
     let registers = set([0; 16], 2, 8);
-    Machine {
+    State {
         visit: Visit::Held {
             previous: word(previous),
             age: byte(age),
@@ -113,13 +113,13 @@ fn with_held(m: Machine, previous: u64, age: u64) -> Machine {
 }
 
 // The machine with the part that the line names overwritten.
-pub fn overwritten(m: Machine, l: Line) -> Machine {
+pub fn overwritten(m: State, l: Line) -> State {
     let fields = l.fields;
     let letter = l.letter;
     match letter {
         b'R' => with_register(m, fields[0], fields[1]),
         b'K' => with_saved(m, fields[0], fields[1]),
-        b'P' => Machine {
+        b'P' => State {
             previous: word(fields[0]),
             ..m
         },
@@ -129,12 +129,12 @@ pub fn overwritten(m: Machine, l: Line) -> Machine {
         b'D' => with_alarm(m, Stamp::At(fields[0])),
         b'd' => with_alarm(m, Stamp::Never),
         b'H' => with_held(m, fields[0], fields[1]),
-        b'h' => Machine {
+        b'h' => State {
             visit: Visit::Free,
             ..m
         },
-        b'Z' => Machine { halted: true, ..m },
-        b'z' => Machine { halted: false, ..m },
+        b'Z' => State { halted: true, ..m },
+        b'z' => State { halted: false, ..m },
         _ => m,
     }
 }

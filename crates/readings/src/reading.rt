@@ -1,14 +1,15 @@
 // A sheet's reading: its refusal, or how its run ends.
 use crate::part;
+use definition::answer::RunAnswer;
 use libc::STDOUT_FILENO;
-use machine::answer::RunAnswer;
-use machine::state::Machine;
+use machine::calls::Machine;
 use sheet::reader::Answer;
 use sheet::reader::Setup;
 use sheet::reader::read_sheet;
 use sheet::setup::load_memory;
 use sheet::setup::load_stamps;
-use sheet::transcript;
+use transcript::line::end_line;
+use transcript::line::refusal_line;
 
 // Bytes as they are.
 pub fn print(text: &[u8]) {
@@ -26,18 +27,18 @@ fn run_line(out: &mut [u8], setup: Setup, mem: &mut [u8], stamps: &[u64]) -> usi
     let started = Machine::start(mem);
     let m = started.machine;
     let ran = m.run(mem, layout, &stamps[0..count], setup.budget);
-    let next = ran.machine;
+    let next = ran.machine.0;
     let answer = ran.answer;
     match answer {
-        RunAnswer::Made(end, steps) => transcript::end_line(out, end, steps, next.time.clock),
-        RunAnswer::Refused(refusal) => transcript::refusal_line(out, refusal, 0),
+        RunAnswer::Made(end, steps) => end_line(out, end, steps, next.time.clock),
+        RunAnswer::Refused(refusal) => refusal_line(out, refusal, 0),
     }
 }
 
 // The last line that the bench prints for a sheet, put into what is lent; its length.
 fn last_line(out: &mut [u8], text: &[u8], mem: &mut [u8; 65536], stamps: &mut [u64]) -> usize {
     match read_sheet(text) {
-        Answer::Refused(refusal, line) => transcript::refusal_line(out, refusal, line),
+        Answer::Refused(refusal, line) => refusal_line(out, refusal, line),
         Answer::Read(setup) => {
             load_memory(mem, text);
             load_stamps(stamps, text);
