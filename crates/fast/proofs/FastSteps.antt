@@ -2,7 +2,7 @@
 use mathlib.Core.Path.{_≡_, refl, sym, _∙_, ap, subst}
 use mathlib.Core.Bool.{Bool, true, false}
 use mathlib.Core.List.{List}
-use Prim.Native.Nat.{ℕ, _+_, _/_, _%_, _≤_, _<_}
+use Prim.Native.Nat.{ℕ, _+_, _/_, _%_, _≤_, _<_, _^_}
 use native.Mathlib.Omega.{arith}
 use lib.Dec.{eqb}
 use lib.ListN.{length, getD}
@@ -80,21 +80,24 @@ pub record FastLoop (L : Layout) (held : Bool) (until left : ℕ) (from s : Fast
   pub size : length (s .memory) ≡ 65536
   pub leads : FastSteps L held until from k s
   pub within : k ≤ left
+  pub room : s .clock ≤ 2 ^ 63
 
 module _
     (L : Layout) (held : Bool) (until left : ℕ) (from s : FastState) (k : ℕ) (q : FastLoop L held until left from s k) (more : k < left)
     (near : s .clock + 5 ≤ until) (f : fetchable L held (s .previous) (getD (s .registers) 0 0) ≡ true) (w : ℕ)
     (word : w ≡ wordAt (s .memory) (getD (s .registers) 0 0)) (e : Effect) (does : fastAt L s w ≡ Does e) where
   -- one more fast step
-  pub fast-loop-next : (bytes : List ℕ) → bytes ≡ applied e w s .memory
+  pub fast-loop-next : until ≤ lastClock → (bytes : List ℕ) → bytes ≡ applied e w s .memory
       → FastLoop L held until left from (fastState (applied e w s .registers) (applied e w s .previous) (applied e w s .clock) bytes) (k + 1)
-  fast-loop-next bytes b =
+  fast-loop-next early bytes b =
+      let h = effect-few L held s w e does .1 in
       record {
         size = ap (λ (z : List ℕ). length z) b ∙ put-if-length _ (s .memory) _ _ ∙ q .size;
         leads =
             oneMore k (k + 1) s _ w e (q .leads) near f word does
             (ap (λ (z : List ℕ). fastState (applied e w s .registers) (applied e w s .previous) (applied e w s .clock) z) b) refl;
         within = omega arith;
+        room = omega arith;
       }
 
 -- the time at a clock value, with the slot and the alarm as they are

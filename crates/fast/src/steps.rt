@@ -1,7 +1,8 @@
 // Fast steps in a row. Registers are changed where they lie.
 ghost use mathlib.Core.Path.{_≡_};
-ghost use Prim.Native.Nat.{_≤_};
+ghost use Prim.Native.Nat.{_≤_, _^_};
 ghost use lib.ListN.{length};
+ghost use Rattle.definition.specs.Run.{lastClock};
 ghost use Rattle.fast.specs.Effect.{fetchable};
 ghost use Rattle.fast.specs.Steps.{putIf, fastState, FastSteps};
 use crate::effect::Fast;
@@ -50,16 +51,15 @@ fn fast_loop(
     left: u64,
 ) -> Went
     requires { ⌜ length (now mem) ≡ 65536 ⌝ }
-    requires { ⌜ 5 ≤ until ⌝ }
+    requires { ⌜ (clock ≤ 2 ^ 63) × (until ≤ lastClock) ⌝ }
     ensures { λ r. ⌜ FastSteps layout held until (fastState (now (registers .entry)) previous clock (now (mem .entry))) (r .steps) (fastState (now (registers .exit)) (r .previous) (r .clock) (now (mem .exit))) ⌝ }
     ensures { λ r. ⌜ r .steps ≤ left ⌝ }
 {
-    let latest = until - 5;
     let mut last = previous;
     let mut time = clock;
     let mut steps: u64 = 0;
     while steps < left {
-        if latest < time {
+        if until < time + 5 {
             break;
         }
         let pc = registers[0];
@@ -88,7 +88,7 @@ fn fast_loop(
     }
 }
 
-// The same whatever is lent: none where memory is not whole or the clock value is too early.
+// The same whatever is lent: none where memory is not whole or a clock value is too late.
 pub fn fast_steps(
     registers: &mut [u16; 16],
     previous: u16,
@@ -103,8 +103,10 @@ pub fn fast_steps(
     ensures { λ r. ⌜ r .steps ≤ left ⌝ }
 {
     if mem.len() == 65536 {
-        if 5 <= until {
-            return fast_loop(registers, previous, clock, held, mem, layout, until, left);
+        if clock <= 0x8000_0000_0000_0000 {
+            if until <= 0x4000_0000_0000_0000 {
+                return fast_loop(registers, previous, clock, held, mem, layout, until, left);
+            }
         }
     }
     Went {

@@ -1,11 +1,12 @@
 -- A machine whose registers are lent: the saved copy by what is held, and what is handed back, apart and joined. Assumes nothing.
 use mathlib.Core.Path.{_≡_, refl, sym, _∙_, ap, subst}
-use mathlib.Core.Bool.{true, false, true≢false}
+use mathlib.Core.Bool.{Bool, true, false, true≢false}
 use mathlib.Core.List.{List}
 use Prim.Native.Nat.{ℕ, _≤_}
 use native.Mathlib.Omega.{arith}
+use lib.ListN.{getD}
 use borrow.Author.Tests.{ne-eqb}
-use Rattle.base.proofs.Tests.{if-false}
+use Rattle.base.proofs.Tests.{if-false, fails}
 use Rattle.layout.specs.declared.sections.Layout.{Layout}
 use Rattle.definition.specs.declared.state.Visit.{Visit}
 use Rattle.definition.specs.declared.state.Visit.the-variants.{Free, Held}
@@ -24,10 +25,11 @@ use Rattle.definition.specs.Step.{savedFor, step}
 use Rattle.definition.specs.Run.{run}
 use Rattle.machine.specs.Answers.{machine, stopped}
 use Rattle.clock.specs.Place.{Ready}
-use Rattle.fast.specs.Steps.{Leads, savedAfter}
+use Rattle.fast.specs.Steps.{Leads, FastSteps, fastState, savedAfter}
 use Rattle.machine.specs.Turn.{Turn}
 use Rattle.act.specs.Control.{joined, controlOf}
-use Rattle.machine.specs.Lent.{lentStepped, lentMoved, lentRan, controlAfter, FastLeads}
+use Rattle.machine.specs.Lent.{lentStepped, lentMoved, lentRan, controlAfter, Calm, FastLeads}
+use Rattle.fast.proofs.FastSteps.{fast-leads}
 use Rattle.interrupt.proofs.Handed.{Handed, handed}
 use Rattle.machine.proofs.AnswerLaws.{Promised}
 use Rattle.machine.proofs.FastRun.{leads-one}
@@ -39,6 +41,15 @@ saved-held (Held previous age) saved e = refl
 pub saved-free : (v : Visit) (saved : List ℕ) → isHeld v ≡ false → savedFor v saved ≡ zeros
 saved-free Free saved e = refl
 saved-free (Held previous age) saved e = absurd (true≢false e)
+
+-- fast steps up to a calm clock value lead on
+pub fast-led : (L : Layout) (stamps rs mem rs' bytes : List ℕ) (c : Control) (until : ℕ) (held : Bool) (went : Went)
+    → Calm stamps (getD rs 2 0) c until → held ≡ isHeld (c .visit)
+    → FastSteps L held until (fastState rs (c .previous) (c .time .clock) mem) (went .steps)
+    (fastState rs' (went .previous) (went .clock) bytes)
+    → FastLeads L stamps c rs mem went rs' bytes
+fast-led L stamps rs mem rs' bytes c until held went s h q =
+    λ saved. fast-leads L stamps rs saved mem c until _ held (s .0) (s .1) h (λ l. fails refl l) _ _ q
 
 -- after some fast steps the saved copy is the one that a step hands back
 pub fast-cleared : (L : Layout) (stamps : List ℕ) (c : Control) (rs mem : List ℕ) (went : Went) (rs' bytes : List ℕ)

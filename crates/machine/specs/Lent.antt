@@ -1,7 +1,10 @@
 -- What calls, steps and runs leave of a state whose registers are lent.
 use Prim.Native.Nat.{ℕ}
+use mathlib.Core.Path.{_≡_}
+use mathlib.Core.Bool.{true, not}
 use mathlib.Core.List.{List}
 use Rattle.layout.specs.declared.sections.Layout.{Layout}
+use Rattle.definition.specs.declared.state.Time.{Time}
 use Rattle.act.specs.declared.control.Control.{Control}
 use Rattle.machine.specs.declared.answer.Stepped.{Stepped}
 use Rattle.machine.specs.declared.answer.LentStepped.{LentStepped}
@@ -11,6 +14,8 @@ use Rattle.machine.specs.declared.lent.LentMoved.{LentMoved}
 use Rattle.fast.specs.declared.steps.Went.{Went}
 use Rattle.machine.specs.declared.run.LentRan.{LentRan}
 use Rattle.definition.specs.State.{world}
+use Rattle.alu.specs.Status.{gie}
+use Rattle.clock.specs.Still.{Still}
 use Rattle.fast.specs.Steps.{Leads, savedAfter}
 use Rattle.act.specs.Control.{joined}
 use Rattle.machine.specs.Answers.{machine}
@@ -36,6 +41,10 @@ controlAfter c w =
       visit = c .visit;
       halted = c .halted;
     }
+
+-- up to this clock value fast steps may go: time only goes on, nothing is pending or GIE is clear, and the machine is not halted
+abbrev pub Calm : List ℕ → ℕ → Control → ℕ → Type 0
+Calm stamps status c until = Still stamps (not (gie status)) (c .time) until × (c .halted ≡ true → until ≡ 0)
 
 -- fast steps of a machine lead on, whatever its saved copy
 abbrev pub FastLeads : Layout → List ℕ → Control → List ℕ → List ℕ → Went → List ℕ → List ℕ → Type 0

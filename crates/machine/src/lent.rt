@@ -9,7 +9,7 @@ ghost use Rattle.definition.specs.Run.{lastClock};
 ghost use Rattle.clock.specs.Place.{RightPlace, Ready};
 ghost use Rattle.definition.specs.Calls.{timetable};
 ghost use Rattle.act.specs.Control.{joined, controlOf};
-ghost use Rattle.machine.specs.Lent.{lentMoved, controlAfter, FastLeads};
+ghost use Rattle.machine.specs.Lent.{lentMoved, controlAfter, Calm};
 use act::control::Control;
 use act::registers::zero_registers;
 use alu::status::gie_is_set;
@@ -58,35 +58,14 @@ pub fn clear_unheld(visit: Visit, saved: &mut [u16; 16])
     *saved = zero_registers();
 }
 
-// Fast steps, as many as there are and as are left, from the clock's place in the timetable.
-pub fn fast_from(
-    control: Control,
-    registers: &mut [u16; 16],
-    mem: &mut [u8],
-    layout: Layout,
-    stamps: &[u64],
-    place: usize,
-    left: u64,
-) -> Went
+// The clock value up to which fast steps may go: up to it time only goes on and no interrupt is due. 0 where there is none.
+pub fn calm_until(control: Control, status: u16, stamps: &[u64], place: usize) -> u64
     requires { ⌜ timetable (now stamps) ≡ true ⌝ }
     requires { ⌜ RightPlace (now stamps) (control .time .clock) place ⌝ }
-    ensures { λ r. ⌜ FastLeads layout (now (stamps .entry)) control (now (registers .entry)) (now (mem .entry)) r (now (registers .exit)) (now (mem .exit)) ⌝ }
-    ensures { λ r. ⌜ r .steps ≤ left ⌝ }
+    ensures { λ r. ⌜ Calm (now (stamps .entry)) status control r ⌝ }
 {
     let time = control.time;
-    let visit = control.visit;
-    let silent = !gie_is_set(registers[2]);
-    let until = still_until(control.halted, silent, time, stamps, place);
-    fast_steps(
-        registers,
-        control.previous,
-        time.clock,
-        is_held(visit),
-        mem,
-        layout,
-        until,
-        left,
-    )
+    still_until(control.halted, !gie_is_set(status), time, stamps, place)
 }
 
 // One step that is not fast.
@@ -133,8 +112,19 @@ pub fn one_step(
     ensures { λ _. ⌜ now (mem .exit) ≡ step layout (now (stamps .entry)) (joined (now (registers .entry)) (now (saved .entry)) control) (now (mem .entry)) .memory ⌝ }
 {
     let visit = control.visit;
-    let place = first_place(stamps, control.time.clock);
-    let went = fast_from(control, registers, mem, layout, stamps, place, 1);
+    let clock = control.time.clock;
+    let place = first_place(stamps, clock);
+    let until = calm_until(control, registers[2], stamps, place);
+    let went = fast_steps(
+        registers,
+        control.previous,
+        clock,
+        is_held(visit),
+        mem,
+        layout,
+        until,
+        1,
+    );
     if went.steps > 0 {
         clear_unheld(visit, saved);
         return LentMoved {

@@ -13,16 +13,18 @@ ghost use Rattle.act.specs.Control.{joined};
 ghost use Rattle.machine.specs.Lent.{lentRan};
 use crate::answer::Ran;
 use crate::calls::Machine;
+use crate::lent::calm_until;
 use crate::lent::clear_unheld;
 use crate::lent::control_after;
-use crate::lent::fast_from;
 use act::control::Control;
 use clock::time::advance;
 use clock::time::first_place;
 use definition::answer::End;
 use definition::answer::RunAnswer;
 use definition::state::State;
+use fast::steps::fast_steps;
 use layout::sections::Layout;
+use step::step::is_held;
 use step::step::take_step;
 
 // How far a turn of a run went: what is beside the registers after it, and its steps.
@@ -55,7 +57,17 @@ fn turn(
     ensures { λ r. ⌜ Turn layout (now (stamps .entry)) left (world (joined (now (registers .entry)) (now (saved .entry)) control) (now (mem .entry))) (r .steps) (world (joined (now (registers .exit)) (now (saved .exit)) (r .control)) (now (mem .exit))) ⌝ }
 {
     let visit = control.visit;
-    let went = fast_from(control, registers, mem, layout, stamps, place, left);
+    let until = calm_until(control, registers[2], stamps, place);
+    let went = fast_steps(
+        registers,
+        control.previous,
+        control.time.clock,
+        is_held(visit),
+        mem,
+        layout,
+        until,
+        left,
+    );
     if went.steps > 0 {
         clear_unheld(visit, saved);
         return Turned {

@@ -1,6 +1,6 @@
 use mathlib.Core.Bool.{true}
 use mathlib.Core.Path.{sym, _∙_}
-use Prim.Native.Nat.{_+_, _-_, _≤_}
+use Prim.Native.Nat.{_-_}
 use native.Mathlib.Omega.{arith}
 use borrow.Author.Needs.{needs}
 use Rattle.base.proofs.Tests.{holds}
@@ -10,20 +10,20 @@ use Rattle.fast.proofs.steps.fast_loop.Statement.{statement}
 use Rattle.fast.proofs.steps.fast_loop.Tie as tie
 
 abbrev Inv-loop : tie.InvT-loop
-Inv-loop registers₀ previous clock held mem₀ layout until left latest last₀ time₀ steps₀ registers mem last time steps =
+Inv-loop registers₀ previous clock held mem₀ layout until left last₀ time₀ steps₀ registers mem last time steps =
     FastLoop layout held until left (fastState registers₀ previous clock mem₀) (fastState registers last time mem) steps
 
 abbrev μ-loop : tie.MeasureT-loop
-μ-loop registers₀ previous clock held mem₀ layout until left latest last₀ time₀ steps₀ registers mem last time steps =
+μ-loop registers₀ previous clock held mem₀ layout until left last₀ time₀ steps₀ registers mem last time steps =
     left - steps
-
-sub-latest : tie.Need-sub-latest Inv-loop μ-loop
-sub-latest c = let h = c .before .pre .1 in omega arith
 
 loop-holds : tie.Need-loop-holds Inv-loop μ-loop
 loop-holds c =
     let p = c .before .pre in
-    record { size = p .0; leads = noStep; within = omega arith }
+    record { size = p .0; leads = noStep; within = omega arith; room = p .1 .0 }
+
+add-if1 : tie.Need-add-if1 Inv-loop μ-loop
+add-if1 c = let r = c .before .loop .inv .room in omega arith
 
 element-copy-out-pc : tie.Need-element-copy-out-pc Inv-loop μ-loop
 element-copy-out-pc c = search needs
@@ -84,9 +84,7 @@ element-write-registers-3 c = search needs
 
 add-time : tie.Need-add-time Inv-loop μ-loop
 add-time c =
-    let p = c .before .before .before .before .before .before .before .before .before .before .before .before .before .before .before .before .before .before .before .before .before .before .before .pre .1 in
-    let n = c .before .before .before .before .before .before .before .before .before .before .before .before .before .before .before .before .before .before .before .if1 .left in
-    let u = c .before .before .before .before .before .before .before .before .before .before .before .before .before .before .before .before .before .before .before .before .before .before .before .fits .until .fits in
+    let r = c .before .before .before .before .before .before .before .before .before .before .before .before .before .before .before .before .before .before .before .before .before .loop .inv .room in
     let g = effect-few _ true (fastState (c .before .before .before .before .before .before .before .before .before .before .before .before .before .before .before .before .before .before .before .before .before .loop .registers) (c .before .before .before .before .before .before .before .before .before .before .before .before .before .before .before .before .before .before .before .before .before .loop .last) (c .before .before .before .before .before .before .before .before .before .before .before .before .before .before .before .before .before .before .before .before .before .loop .time) (c .before .before .before .before .before .before .before .before .before .before .before .before .before .before .before .before .before .before .before .before .before .loop .mem)) _ _ (sym (c .before .before .before .before .before .before .before .before .before .fast-effect .ensures) ∙ c .before .before .before .before .before .before .before .e .given .1) .1 in
     omega arith
 
@@ -102,11 +100,7 @@ loop-less c =
 
 loop-again : tie.Need-loop-again Inv-loop μ-loop
 loop-again c =
-    let l = c .before .before .before .before .before .before .before .before .before .before .before .before .before .before .before .before .before .before .before .before .before .loop in
-    let p = c .before .before .before .before .before .before .before .before .before .before .before .before .before .before .before .before .before .before .before .before .before .before .before .pre .1 in
-    let n = c .before .before .before .before .before .before .before .before .before .before .before .before .before .before .before .before .before .before .before .if1 .left in
-    let near : l .time + 5 ≤ c .before .before .before .before .before .before .before .before .before .before .before .before .before .before .before .before .before .before .before .before .before .before .before .args .until = omega arith in
-    fast-loop-next _ _ _ _ _ _ _ (c .before .before .before .before .before .before .before .before .before .before .before .before .before .before .before .before .before .before .before .before .before .loop .inv) (c .before .before .before .before .before .before .before .before .before .before .before .before .before .before .before .before .before .before .before .before .loop-test .taken) near (holds (c .before .before .before .before .before .before .before .before .before .before .before .before .before .before .before .before .before .may-fetch .ensures) (c .before .before .before .before .before .before .before .before .before .before .before .before .before .before .before .before .if2 .left)) _ (c .before .before .before .before .before .before .before .before .before .before .before .before .before .before .word-at .ensures) _ (sym (c .before .before .before .before .before .before .before .before .before .fast-effect .ensures) ∙ c .before .before .before .before .before .before .before .e .given .1) _ (c .before .before .before .put-if .ensures)
+    fast-loop-next _ _ _ _ _ _ _ (c .before .before .before .before .before .before .before .before .before .before .before .before .before .before .before .before .before .before .before .before .before .loop .inv) (c .before .before .before .before .before .before .before .before .before .before .before .before .before .before .before .before .before .before .before .before .loop-test .taken) (c .before .before .before .before .before .before .before .before .before .before .before .before .before .before .before .before .before .before .before .if1 .left) (holds (c .before .before .before .before .before .before .before .before .before .before .before .before .before .before .before .before .before .may-fetch .ensures) (c .before .before .before .before .before .before .before .before .before .before .before .before .before .before .before .before .if2 .left)) _ (c .before .before .before .before .before .before .before .before .before .before .before .before .before .before .word-at .ensures) _ (sym (c .before .before .before .before .before .before .before .before .before .fast-effect .ensures) ∙ c .before .before .before .before .before .before .before .e .given .1) (c .before .before .before .before .before .before .before .before .before .before .before .before .before .before .before .before .before .before .before .before .before .before .before .pre .1 .1) _ (c .before .before .before .put-if .ensures)
 
 same-length : tie.Need-same-length Inv-loop μ-loop
 same-length c = c .before .loop .inv .size ∙ sym (c .before .before .before .pre .0)
@@ -142,8 +136,8 @@ fast-loop-spec =
     (tie.spec
     Inv-loop
     μ-loop
-    sub-latest
     loop-holds
+    add-if1
     element-copy-out-pc
     may-fetch-requires
     word-at-requires

@@ -19,6 +19,9 @@ returns-2 c = (noStep, omega arith)
 returns-3 : tie.Need-returns-3
 returns-3 c = (noStep, omega arith)
 
+returns-4 : tie.Need-returns-4
+returns-4 c = (noStep, omega arith)
+
 pub fast-steps-spec : {M : Type 1} → statement M
 fast-steps-spec =
-    tie.close (tie.spec fast-loop-requires same-length returns returns-2 returns-3)
+    tie.close (tie.spec fast-loop-requires same-length returns returns-2 returns-3 returns-4)
