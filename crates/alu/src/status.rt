@@ -2,7 +2,7 @@
 ghost use mathlib.Core.Path.{_≡_};
 ghost use Prim.Native.Nat.{_*_, _≤_};
 ghost use Rattle.base.specs.Test.{bitOf};
-ghost use Rattle.alu.specs.Status.{gie, zero, flagsOf, withoutFlags, setFlags, keepGie};
+ghost use Rattle.alu.specs.Status.{gie, zero, flagsOf, setFlags, keepGie};
 use crate::arithmetic::Computed;
 use crate::arithmetic::bit_15;
 

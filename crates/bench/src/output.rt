@@ -1,6 +1,4 @@
 // Standard output through a large buffer, and complaints on standard error.
-ghost use Prim.Native.Nat.{_≤_};
-ghost use lib.ListN.{length};
 use libc::STDERR_FILENO;
 use libc::STDOUT_FILENO;
 

@@ -1,8 +1,8 @@
 -- The clock values up to which time only goes on: no request happens, or it merges into one that is pending.
 use mathlib.Core.Path.{_≡_}
-use mathlib.Core.Bool.{Bool, false, not}
+use mathlib.Core.Bool.{Bool, false}
 use mathlib.Core.List.{List}
-use Prim.Native.Nat.{ℕ, _+_, _-_, _≤_}
+use Prim.Native.Nat.{ℕ, _+_, _≤_}
 use Rattle.definition.specs.declared.state.Stamp.{Stamp}
 use Rattle.definition.specs.declared.state.Stamp.the-variants.{Never}
 use Rattle.definition.specs.declared.state.Time.{Time}

@@ -1,6 +1,6 @@
 -- Many steps: a run stops at the first of halted, clock above 2^62, budget spent.
 use Prim.Native.Nat.{ℕ, zero, suc, _+_}
-use mathlib.Core.Bool.{Bool, true, false}
+use mathlib.Core.Bool.{Bool}
 use mathlib.Core.List.{List, [], _∷_}
 use lib.Dec.{ltb}
 use Rattle.base.specs.Test.{if_then_else_}

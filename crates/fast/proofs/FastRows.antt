@@ -19,7 +19,7 @@ use Rattle.isa.specs.declared.table.Row.{Row}
 use Rattle.isa.specs.declared.table.Row.the-variants.{Jz as JZ, Nop as NOP, Jmp as JMP, Mov as MOV, Load as LOAD, Store as STORE, Immediate as IMMEDIATE, Compute as COMPUTE}
 use Rattle.isa.specs.declared.read.Begun.{Begun}
 use Rattle.isa.specs.declared.read.Begun.the-variants.{Found}
-use Rattle.isa.specs.Words.{begun, twoWords, finished}
+use Rattle.isa.specs.Words.{twoWords, finished}
 use Rattle.isa.specs.Cycles.{cyclesOf}
 use Rattle.alu.specs.Arithmetic.{computed}
 use Rattle.alu.specs.Status.{gie, zero as zeroSet}
@@ -28,8 +28,7 @@ use Rattle.alu.proofs.StatusBits.{flags-only}
 use Rattle.layout.specs.declared.sections.Layout.{Layout}
 use Rattle.layout.specs.declared.access.Right.the-variants.{Read as read, Write as write}
 use Rattle.isa.specs.Table.{pointer}
-use Rattle.layout.specs.Sections.{inside, sameSide}
-use Rattle.definition.specs.Step.{step}
+use Rattle.layout.specs.Sections.{sameSide}
 use Rattle.layout.specs.Access.{may}
 use Rattle.definition.specs.declared.judge.Judged.the-variants.{Acts}
 use Rattle.fast.specs.declared.effect.Effect.{Effect}
@@ -39,7 +38,7 @@ use Rattle.definition.specs.Memory.{wordAt}
 use Rattle.definition.specs.Registers.{register, pc, sr, write as writeRegister}
 use Rattle.definition.specs.Judge.{reads, writes, allMay, privileged, isReti, judgeAct, judgeWords, judgeSecond, judgeFirst}
 use Rattle.definition.specs.Act.{past, registersAfter, memoryAfter}
-use Rattle.fast.specs.Effect.{leading, setting, computing, branching, fast}
+use Rattle.fast.specs.Effect.{leading, setting, computing, branching}
 use Rattle.fast.specs.Steps.{affected, putIf}
 use Rattle.definition.proofs.cause.JudgeLaws.{second-fails}
 use Rattle.fast.proofs.FastSets.{set-twice, led, compared, moved, stored}

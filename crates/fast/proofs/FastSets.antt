@@ -8,9 +8,8 @@ use lib.ListN.{set}
 use borrow.Author.Tests.{ne-eqb, lt-leb}
 use Rattle.base.proofs.Tests.{if-false}
 use Rattle.alu.specs.declared.arithmetic.Computed.{Computed}
-use Rattle.alu.specs.Arithmetic.{computed}
 use Rattle.alu.specs.Status.{setFlags}
-use Rattle.definition.specs.Registers.{register, pc, sr, write as writeRegister}
+use Rattle.definition.specs.Registers.{register, sr, write as writeRegister}
 use Rattle.definition.proofs.instruction.ActLaws.{register-set}
 use Rattle.definition.proofs.cause.JudgeLaws.{first-fails}
 

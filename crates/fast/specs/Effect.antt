@@ -2,9 +2,8 @@
 -- It looks at no other register than it is handed, and is proved to do what the step does.
 use mathlib.Core.Bool.{Bool, true, false, not}
 use mathlib.Core.List.{List, [], _∷_}
-use Prim.Native.Nat.{ℕ, _-_, _/_, _%_}
+use Prim.Native.Nat.{ℕ, _/_, _%_}
 use lib.Dec.{ltb, eqb}
-use lib.ListN.{set}
 use Rattle.base.specs.Test.{if_then_else_, all}
 use Rattle.base.specs.Word.{even, sum16}
 use Rattle.isa.specs.declared.instruction.Operation.{Operation}

@@ -2,7 +2,7 @@
 ghost use mathlib.Core.Path.{_≡_};
 ghost use Prim.Native.Nat.{_+_, _≤_};
 ghost use mathlib.Core.List.{[]};
-ghost use lib.ListN.{length, set};
+ghost use lib.ListN.{set};
 ghost use Rattle.definition.specs.State.{resetAddress, fresh};
 ghost use Rattle.definition.specs.declared.state.Stamp.the-variants.{At as AT};
 ghost use Rattle.definition.specs.declared.answer.Outcome.the-variants.{Ran as RAN};

@@ -1,6 +1,6 @@
 -- One turn of the search for a byte, and parts to the end. Assumes nothing.
-use Prim.Native.Nat.{ℕ, suc, _+_, _<_, _≤_, _-_}
-use mathlib.Core.Path.{_≡_, refl, sym, _∙_, ap}
+use Prim.Native.Nat.{ℕ, _+_, _<_, _-_}
+use mathlib.Core.Path.{_≡_, _∙_}
 use mathlib.Core.List.{List}
 use native.Mathlib.Omega.{arith}
 use native.Mathlib.Numerals.{add-one}

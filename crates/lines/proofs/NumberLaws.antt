@@ -1,19 +1,18 @@
 -- Digits and decimals, a digit at a time. Assumes nothing.
-use Prim.Native.Nat.{ℕ, suc, _+_, _*_, _≤_, _<_}
-use mathlib.Core.Path.{_≡_, refl, sym, _∙_, ap, subst}
+use Prim.Native.Nat.{ℕ, _+_, _*_, _≤_, _<_}
+use mathlib.Core.Path.{_≡_, _∙_, ap, subst}
 use mathlib.Core.List.{List}
 use native.Mathlib.Omega.{arith}
 use native.Mathlib.Numerals.{add-one}
 use lib.ListN.{length, getD, drop, drop-of-length-le}
 use lib.Seq.{drop-cons}
 use borrow.Author.Tests.{le-leb, lt-leb}
-use Rattle.base.specs.Test.{if_then_else_}
 use Rattle.base.proofs.Tests.{if-true, if-false}
 use Rattle.lines.specs.declared.number.Digit.{Digit}
 use Rattle.lines.specs.declared.number.Digit.the-variants.{Is as Digits, Bad as NoDigit}
 use Rattle.lines.specs.declared.number.Decimal.{Decimal}
 use Rattle.lines.specs.declared.number.Decimal.the-variants.{Is as DecimalIs, Bad as NoDecimal}
-use Rattle.lines.specs.Number.{decimalDigit, oneMore, digitsFrom, decimalOf}
+use Rattle.lines.specs.Number.{decimalDigit, oneMore, digitsFrom}
 use Rattle.lines.specs.internal.Digit.{within}
 
 -- a digit that is known is within its bound

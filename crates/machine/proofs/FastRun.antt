@@ -9,10 +9,9 @@ use Rattle.layout.specs.declared.sections.Layout.{Layout}
 use Rattle.definition.specs.declared.answer.Outcome.the-variants.{Ran}
 use Rattle.definition.specs.State.{World}
 use Rattle.definition.specs.Interrupt.{Step, gives}
-use Rattle.definition.specs.Step.{step}
 use Rattle.definition.specs.Run.{lastClock, worldAfter, stepOf, runFrom, stopOr}
 use Rattle.fast.specs.Steps.{Leads, none, on}
-use Rattle.machine.specs.Turn.{Turn}
+use Rattle.machine.specs.internal.Turn.{Turn}
 use Rattle.definition.specs.Laws.{LengthKept}
 use Rattle.definition.proofs.step.CycleLaws.{clock-rises}
 use Rattle.definition.proofs.step.TouchLaws.{length-kept}

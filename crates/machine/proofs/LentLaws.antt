@@ -23,12 +23,12 @@ use Rattle.definition.specs.State.{World, world, isHeld}
 use Rattle.interrupt.specs.Moved.{moved}
 use Rattle.definition.specs.Step.{savedFor, step}
 use Rattle.definition.specs.Run.{run}
-use Rattle.machine.specs.Answers.{machine, stopped}
+use Rattle.machine.specs.Answers.{machine, stopped, lentStepped}
 use Rattle.clock.specs.Place.{Ready}
 use Rattle.fast.specs.Steps.{Leads, FastSteps, fastState, savedAfter}
-use Rattle.machine.specs.Turn.{Turn}
+use Rattle.machine.specs.internal.Turn.{Turn}
 use Rattle.act.specs.Control.{joined, controlOf}
-use Rattle.machine.specs.Lent.{lentStepped, lentMoved, lentRan, controlAfter, Calm, FastLeads}
+use Rattle.machine.specs.internal.Lent.{lentMoved, lentRan, controlAfter, Calm, FastLeads}
 use Rattle.fast.proofs.FastSteps.{fast-leads}
 use Rattle.interrupt.proofs.Handed.{Handed, handed}
 use Rattle.machine.proofs.AnswerLaws.{Promised}

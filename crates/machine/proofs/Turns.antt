@@ -18,7 +18,7 @@ use Rattle.interrupt.specs.Moved.{moved}
 use Rattle.definition.specs.Run.{lastClock, goes, stops, ending, worldAfter, runFrom, run, stopOr}
 use Rattle.clock.specs.Place.{Passed, RightPlace, Ready}
 use Rattle.definition.specs.Calls.{timetable}
-use Rattle.machine.specs.Turn.{Turn}
+use Rattle.machine.specs.internal.Turn.{Turn}
 
 -- why the loop leaves, and where it does not
 pub ending-halted : (m : State) → m .halted ≡ true → ending m ≡ stops Halted

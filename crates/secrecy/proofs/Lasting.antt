@@ -1,10 +1,10 @@
 -- What each step adds to a visit: from where it is, a visit that ends lasts its own cycles and what its interrupts add. Assumes nothing.
 use mathlib.Core.Path.{_≡_, refl, sym, _∙_, ap, subst}
-use mathlib.Core.Bool.{Bool, true, false, not, true≢false}
+use mathlib.Core.Bool.{Bool, true, false, true≢false}
 use mathlib.Core.List.{List, _∷_}
 use Prim.Native.Nat.{ℕ, _+_}
 use native.Mathlib.Omega.{arith}
-use Rattle.base.proofs.Tests.{cases, each, if-true, if-false, choose}
+use Rattle.base.proofs.Tests.{cases, if-true, if-false, choose}
 use Rattle.isa.specs.declared.instruction.Instruction.{Instruction}
 use Rattle.layout.specs.declared.sections.Layout.{Layout}
 use Rattle.layout.specs.Sections.{inside, outside}

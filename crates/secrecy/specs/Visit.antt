@@ -1,6 +1,6 @@
 -- The visits of a run, in the order of their starts, each with its end if it has one.
 use Prim.Native.Nat.{ℕ, zero, suc, _+_}
-use mathlib.Core.Bool.{Bool, true, false, not}
+use mathlib.Core.Bool.{Bool, false, not}
 use mathlib.Core.List.{List, [], _∷_, _++_}
 use lib.Dec.{leb, eqb}
 use Rattle.base.specs.Test.{if_then_else_, all}

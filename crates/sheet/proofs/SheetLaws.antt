@@ -1,13 +1,13 @@
 -- The lines of a sheet, one at a time: what stands before the first newline is the first line. Assumes nothing.
 use Prim.Native.Nat.{ℕ, suc, _+_, _%_, _≤_, _<_}
 use mathlib.Core.Path.{_≡_, refl, sym, _∙_, ap}
-use mathlib.Core.Bool.{Bool, true, false, true≢false}
+use mathlib.Core.Bool.{Bool, true, false}
 use mathlib.Core.List.{List, [], _∷_}
 use native.Mathlib.Omega.{arith}
 use native.Mathlib.Numerals.{add-one}
 use native.Mathlib.Nat.{add-zero}
 use lib.Dec.{eqb, ltb}
-use lib.ListN.{length, take, drop, set, replicate, length-drop, length-set, length-replicate, drop-of-length-le}
+use lib.ListN.{length, set, replicate, length-drop, length-set, length-replicate, drop-of-length-le}
 use lib.Seq.{sets, take-all}
 use borrow.Author.Tests.{ne-eqb, le-leb, ltb-true, ltb-false}
 use Rattle.base.specs.Test.{if_then_else_}
@@ -24,7 +24,7 @@ use Rattle.sheet.specs.declared.reader.Answer.{Answer}
 use Rattle.sheet.specs.declared.reader.Answer.the-variants.{Refused}
 use Rattle.sheet.specs.declared.reader.Stage.{Stage}
 use Rattle.sheet.specs.declared.reader.Stage.the-variants.{Goes, Stops}
-use Rattle.lines.specs.Text.{newline, find, holds, head, rest}
+use Rattle.lines.specs.Text.{newline, find, head, rest}
 use Rattle.lines.specs.Line.{lineOf}
 use Rattle.sheet.specs.Sheet.{led, pieces, noneFollows, nothingFollows, stageOf, onStage, onLine, bodyFrom, firstOf, onFirst, linesAnswer, sheetAnswer, stored, memoryFrom, sheetMemory, stampOf, stampsFrom}
 

@@ -1,13 +1,13 @@
 -- What a sheet sets up, the machine takes. Assumes nothing.
-use Prim.Native.Nat.{ℕ, zero, suc, _+_, _≤_}
+use Prim.Native.Nat.{ℕ, _+_, _≤_}
 use mathlib.Core.Path.{_≡_, refl, sym, _∙_, ap, subst}
 use mathlib.Core.Bool.{Bool, true, false, true≢false}
 use mathlib.Core.List.{List, [], _∷_}
 use native.Mathlib.Omega.{arith}
-use lib.Dec.{eqb, ltb, leb}
+use lib.Dec.{ltb, leb}
 use lib.ListN.{length}
 use borrow.Author.Tests.{ltb-true, leb-true, le-leb}
-use Rattle.base.specs.Test.{if_then_else_, all}
+use Rattle.base.specs.Test.{if_then_else_}
 use Rattle.base.specs.declared.refusal.Refusal.{Refusal}
 use Rattle.base.specs.declared.refusal.Refusal.the-variants.{Timetable}
 use Rattle.base.proofs.Tests.{cases, choose, each, every, if-true, if-false}
@@ -22,8 +22,6 @@ use Rattle.lines.specs.declared.line.Line.the-variants.{Is, Bad}
 use Rattle.sheet.specs.declared.reader.Setup.{Setup}
 use Rattle.sheet.specs.declared.reader.Answer.{Answer}
 use Rattle.sheet.specs.declared.reader.Answer.the-variants.{Read, Refused}
-use Rattle.sheet.specs.declared.reader.First.{First}
-use Rattle.sheet.specs.declared.reader.First.the-variants.{Is as FirstIs, Other}
 use Rattle.sheet.specs.declared.reader.Stage.{Stage}
 use Rattle.sheet.specs.declared.reader.Stage.the-variants.{Goes, Stops}
 use Rattle.lines.specs.Line.{lineOf}

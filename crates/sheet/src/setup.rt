@@ -5,7 +5,7 @@ ghost use Prim.Native.Nat.{_≤_};
 ghost use lib.ListN.{length, set};
 ghost use lib.Seq.{sets};
 ghost use Rattle.definition.specs.Memory.{putWord};
-ghost use Rattle.sheet.specs.Sheet.{pieces, stored, memoryFrom, sheetMemory, stampOf, stampsFrom, sheetStamps};
+ghost use Rattle.sheet.specs.Sheet.{pieces, stored, memoryFrom, sheetMemory, stampOf, sheetStamps};
 use lines::line::Line;
 use lines::line::Said;
 use lines::line::read_line;

@@ -1,7 +1,6 @@
 // One step: judged, then acting, then its cycles, then the interrupt.
 ghost use mathlib.Core.Path.{_≡_};
 ghost use Prim.Native.Nat.{_≤_, _^_};
-ghost use lib.ListN.{length};
 ghost use Rattle.definition.specs.State.{isHeld};
 ghost use Rattle.interrupt.specs.Moved.{moved};
 ghost use Rattle.definition.specs.Step.{alarmed, isHlt, savedFor, executed, ordinary, performed, step};

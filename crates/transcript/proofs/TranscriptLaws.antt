@@ -1,13 +1,11 @@
 -- Bytes put one after another, and the digits of a decimal. Assumes nothing.
 use Prim.Native.Nat.{ℕ, zero, suc, _+_, _-_, _/_, _%_, _≤_, _<_}
 use mathlib.Core.Path.{_≡_, refl, sym, _∙_, ap}
-use mathlib.Core.Bool.{true, false}
 use mathlib.Core.List.{List, [], _∷_, _++_}
 use native.Mathlib.Omega.{arith}
-use native.Mathlib.Nat.{add-zero, add-assoc}
-use native.Mathlib.Numerals.{add-one}
+use native.Mathlib.Nat.{add-zero}
 use lib.Dec.{eqb}
-use lib.ListN.{length, drop, set, getD, length-set, length-drop, length-append, drop-of-length-le}
+use lib.ListN.{length, drop, set, getD, length-set, length-append, drop-of-length-le}
 use lib.Seq.{sets, drop-cons, drop-set-lt, getD-set-same}
 use borrow.Author.Tests.{eq-eqb, ne-eqb}
 use Rattle.base.specs.Test.{if_then_else_}

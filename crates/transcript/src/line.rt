@@ -5,7 +5,7 @@ ghost use Prim.Native.Nat.{_+_, _≤_};
 ghost use lib.ListN.{length, drop};
 ghost use lib.Seq.{sets};
 ghost use Rattle.lines.specs.Text.{tab};
-ghost use Rattle.transcript.specs.Transcript.{decimalFrom, decimalBytes, hexByte, hexBytes, headerLine, stepLine, endLine, refusalLine};
+ghost use Rattle.transcript.specs.Transcript.{decimalBytes, hexByte, hexBytes, headerLine, stepLine, endLine, refusalLine};
 use base::refusal::Refusal;
 use definition::answer::End;
 use definition::answer::Outcome;

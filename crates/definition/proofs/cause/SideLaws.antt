@@ -1,6 +1,6 @@
 -- An instruction that acts reads and writes its own side: data inside, outside memory elsewhere. Assumes nothing.
 use mathlib.Core.Path.{_≡_, refl}
-use mathlib.Core.Bool.{true, false}
+use mathlib.Core.Bool.{true}
 use mathlib.Core.List.{List, [], _∷_}
 use Prim.Native.Nat.{ℕ}
 use Rattle.base.specs.Word.{even}

@@ -11,7 +11,7 @@ use Rattle.layout.specs.declared.sections.Layout.{Layout}
 use Rattle.definition.specs.declared.verdict.Verdict.{Verdict}
 use Rattle.definition.specs.declared.verdict.Verdict.the-variants.{Taken as taken, Refused as refused}
 use Rattle.definition.specs.State.{World, world}
-use Rattle.definition.specs.Run.{lastClock, run}
+use Rattle.definition.specs.Run.{lastClock}
 use Rattle.definition.specs.Calls.{timetable, Test, verdict, stepTests, runTests, Called, stepAnswered, runAnswered, stepCall, runCall, stepRefusal, runRefusal, Untouched}
 use Rattle.definition.specs.Laws.{inOrder, RefusalsInOrder, RefusedUntouched}
 

@@ -1,6 +1,6 @@
 -- A step of a running machine adds 1 to 23 cycles, and a halted machine stays as it is. Assumes nothing.
 use mathlib.Core.Path.{_≡_, ap}
-use mathlib.Core.Bool.{true, false}
+use mathlib.Core.Bool.{false}
 use mathlib.Core.List.{List}
 use Prim.Native.Nat.{ℕ, _+_, _≤_}
 use native.Mathlib.Omega.{arith}
@@ -12,7 +12,6 @@ use Rattle.definition.specs.declared.state.Visit.the-variants.{Free, Hel
 use Rattle.definition.specs.declared.state.State.{State}
 use Rattle.definition.specs.declared.answer.Cause.{Cause}
 use Rattle.definition.specs.Time.{pass, emptied}
-use Rattle.definition.specs.State.{framed}
 use Rattle.definition.specs.Interrupt.{Step, ageOf, reset, plain, padded, chained, back}
 use Rattle.definition.specs.Step.{step}
 use Rattle.definition.specs.Laws.{StepCycles, HaltedStays}

@@ -1,4 +1,3 @@
-use borrow.Author.Tests.{eqb-true}
 use Rattle.base.proofs.Tests.{fails, holds}
 use Rattle.machine.proofs.AnswerLaws.{start-refused, start-taken}
 use borrow.Author.Needs.{needs}

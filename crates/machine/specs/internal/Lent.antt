@@ -1,4 +1,4 @@
--- What calls, steps and runs leave of a state whose registers are lent.
+-- What steps and runs leave of a state whose registers are lent, and how far fast steps may go. No promise rests on it.
 use Prim.Native.Nat.{ℕ}
 use mathlib.Core.Path.{_≡_}
 use mathlib.Core.Bool.{true, not}
@@ -6,8 +6,6 @@ use mathlib.Core.List.{List}
 use Rattle.layout.specs.declared.sections.Layout.{Layout}
 use Rattle.definition.specs.declared.state.Time.{Time}
 use Rattle.act.specs.declared.control.Control.{Control}
-use Rattle.machine.specs.declared.answer.Stepped.{Stepped}
-use Rattle.machine.specs.declared.answer.LentStepped.{LentStepped}
 use Rattle.machine.specs.declared.answer.Ran.{Ran}
 use Rattle.interrupt.specs.declared.service.Moved.{Moved}
 use Rattle.machine.specs.declared.lent.LentMoved.{LentMoved}
@@ -20,11 +18,7 @@ use Rattle.fast.specs.Steps.{Leads, savedAfter}
 use Rattle.act.specs.Control.{joined}
 use Rattle.machine.specs.Answers.{machine}
 
--- what a step call on lent registers leaves, as a step call hands it back
-abbrev pub lentStepped : List ℕ → List ℕ → LentStepped → Stepped
-lentStepped registers saved r = record { machine = machine (joined registers saved (r .control)); answer = r .answer }
-
--- and a step
+-- what a step on lent registers leaves, as a step hands it back
 abbrev pub lentMoved : List ℕ → List ℕ → LentMoved → Moved
 lentMoved registers saved r = record { machine = joined registers saved (r .control); outcome = r .outcome }
 
