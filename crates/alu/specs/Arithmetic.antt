@@ -36,8 +36,8 @@ subtracted s d =
     computes (difference16 d s) (notZero (difference16 d s)) (signTurns (bit15 d) (not (bit15 s)) (bit15 (difference16 d s)))
 
 -- V is 0 for AND
-abbrev pub masked : ℕ → ℕ → Computed
-masked s d = computes (bitAnd s d) (notZero (bitAnd s d)) false
+abbrev pub conjoined : ℕ → ℕ → Computed
+conjoined s d = computes (bitAnd s d) (notZero (bitAnd s d)) false
 
 -- V is the old bit 15 for NOT
 abbrev pub inverted : ℕ → Computed
@@ -48,4 +48,4 @@ abbrev pub computed : Operation → ℕ → ℕ → Computed
 computed Add s d = added s d
 computed Sub s d = subtracted s d
 computed Cmp s d = subtracted s d
-computed And s d = masked s d
+computed And s d = conjoined s d

@@ -1,6 +1,6 @@
 // What ADD, SUB, CMP, AND and NOT compute.
 ghost use mathlib.Core.Path.{_≡_};
-ghost use Rattle.alu.specs.Arithmetic.{bit15, notZero, signTurns, added, subtracted, masked, inverted, computed};
+ghost use Rattle.alu.specs.Arithmetic.{bit15, notZero, signTurns, added, subtracted, conjoined, inverted, computed};
 use base::word::difference;
 use base::word::sum;
 use isa::instruction::Operation;
@@ -62,7 +62,7 @@ fn subtract(s: u16, d: u16) -> Computed
 }
 
 fn mask(s: u16, d: u16) -> Computed
-    ensures { λ r. ⌜ r ≡ masked s d ⌝ }
+    ensures { λ r. ⌜ r ≡ conjoined s d ⌝ }
 {
     let r = s & d;
     Computed {

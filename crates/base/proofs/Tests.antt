@@ -1,9 +1,10 @@
 -- Tests that are true or false, taken apart and put together. Assumes nothing.
 use mathlib.Core.Path.{_≡_, refl, sym, _∙_}
 use mathlib.Core.Bool.{Bool, true, false, not, true≢false}
-use mathlib.Core.List.{List, [], _∷_}
+use mathlib.Core.List.{List, [], _∷_, _++_}
 use borrow.Author.Tests.{not-true, not-false}
 use Rattle.base.specs.Test.{if_then_else_, all, any}
+use Rattle.base.specs.FirstFailure.{Test, firstFailure, holdsOf}
 
 -- a Bool is one of two, with the equation
 pub cases {ℓ} : {A : Type ℓ} (b : Bool) → (b ≡ true → A) → (b ≡ false → A) → A
@@ -98,3 +99,31 @@ unfolding any
 none-of true u h = absurd (true≢false h)
 none-of false true h = absurd (true≢false h)
 none-of false false h = (refl, refl)
+
+-- ---- tests in an order
+
+-- where no test of a list fails, each holds
+pub none-fails : {A B : Type 0} (passed : B) (failed : A → B) → ((a : A) → failed a ≡ passed → ⊥) → (ts : List (Test A))
+    → firstFailure passed failed ts ≡ passed → Each (holdsOf ts)
+unfolding firstFailure
+none-fails passed failed apart [] e = tt
+none-fails passed failed apart (t ∷ ts) e =
+    cases (t .holds) (λ h. (h, none-fails passed failed apart ts (sym (if-true _ _ _ h) ∙ e)))
+    (λ h. absurd (apart (t .failure) (sym (if-false _ _ _ h) ∙ e)))
+
+-- the first test that fails is told, whatever stands behind it
+pub first-fails : {A B : Type 0} (passed : B) (failed : A → B) (before : List (Test A)) (t : Test A) (after : List (Test A))
+    → all (holdsOf before) ≡ true → t .holds ≡ false → firstFailure passed failed (before ++ (t ∷ after)) ≡ failed (t .failure)
+unfolding firstFailure
+first-fails passed failed [] t after h f = if-false _ _ _ f
+first-fails passed failed (u ∷ before) t after h f =
+    let e = each (holdsOf (u ∷ before)) h in
+    if-true _ _ _ (e .0) ∙ first-fails passed failed before t after (every (holdsOf before) (e .1)) f
+
+-- where every test holds, none is told
+pub all-pass : {A B : Type 0} (passed : B) (failed : A → B) (ts : List (Test A)) → all (holdsOf ts) ≡ true
+    → firstFailure passed failed ts ≡ passed
+unfolding firstFailure
+all-pass passed failed [] h = refl
+all-pass passed failed (t ∷ ts) h =
+    let e = each (holdsOf (t ∷ ts)) h in if-true _ _ _ (e .0) ∙ all-pass passed failed ts (every (holdsOf ts) (e .1))

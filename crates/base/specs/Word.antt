@@ -16,8 +16,8 @@ abbrev pub difference16 : ℕ → ℕ → ℕ
 difference16 a b = low16 (a + (65536 - b))
 
 -- an address less its bit 0
-abbrev pub even : ℕ → ℕ
-even a = a / 2 * 2
+abbrev pub dropBit0 : ℕ → ℕ
+dropBit0 a = a / 2 * 2
 
 -- an even address
 abbrev pub isEven : ℕ → Bool

@@ -1,6 +1,6 @@
 // 16-bit words: sums and differences that keep the low 16 bits, and even addresses.
 ghost use mathlib.Core.Path.{_≡_};
-ghost use Rattle.base.specs.Word.{sum16, difference16, even, isEven};
+ghost use Rattle.base.specs.Word.{sum16, difference16, dropBit0, isEven};
 
 // a + b, its low 16 bits.
 pub fn sum(a: u16, b: u16) -> u16
@@ -18,7 +18,7 @@ pub fn difference(a: u16, b: u16) -> u16
 
 // The address less its bit 0.
 pub fn drop_bit_0(a: u16) -> u16
-    ensures { λ r. ⌜ r ≡ even a ⌝ }
+    ensures { λ r. ⌜ r ≡ dropBit0 a ⌝ }
 {
     a / 2 * 2
 }

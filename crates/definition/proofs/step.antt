@@ -2,5 +2,5 @@ pub mod StepLaws
 pub mod CycleLaws
 pub mod TouchLaws
 pub mod GieLaws
-pub mod QuietLaws
+pub mod NothingDueLaws
 pub mod TwelveLaws

@@ -1,3 +1,4 @@
+pub mod Setting
 pub mod Memory
 pub mod Registers
 pub mod Time
@@ -8,5 +9,7 @@ pub mod Act
 pub mod Interrupt
 pub mod Step
 pub mod Run
+pub mod Answers
 pub mod Calls
+pub mod Promises
 pub mod Laws

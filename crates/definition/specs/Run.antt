@@ -4,7 +4,8 @@ use mathlib.Core.Bool.{Bool}
 use mathlib.Core.List.{List, [], _∷_}
 use lib.Dec.{ltb}
 use Rattle.base.specs.Test.{if_then_else_}
-use Rattle.layout.specs.declared.sections.Layout.{Layout}
+use Rattle.base.specs.Limits.{lastClock}
+use Rattle.definition.specs.Setting.{Setting}
 use Rattle.definition.specs.declared.state.Time.{Time}
 use Rattle.definition.specs.declared.state.State.{State}
 use Rattle.definition.specs.declared.answer.End.{End}
@@ -12,10 +13,6 @@ use Rattle.definition.specs.declared.answer.End.the-variants.{Halted, Cl
 use Rattle.definition.specs.State.{World, world}
 use Rattle.definition.specs.Interrupt.{Step}
 use Rattle.definition.specs.Step.{step}
-
--- the last clock value from which a machine steps: 2^62
-abbrev pub lastClock : ℕ
-lastClock = 0x4000_0000_0000_0000
 
 -- whether a run goes on, or why it stops
 pub data Going : Type 0 where
@@ -28,7 +25,7 @@ ending m = if m .halted then stops Halted else if ltb lastClock (m .time .clock)
 
 -- where a run stopped: the world there, why, and how many steps it made
 pub record Stop : Type 0 where
-  pub machine : State
+  pub state : State
   pub memory : List ℕ
   pub end : End
   pub steps : ℕ
@@ -40,23 +37,23 @@ pub record Move : Type 0 where
 
 -- the world that a step leaves
 abbrev pub worldAfter : Step → World
-worldAfter s = world (s .machine) (s .memory)
+worldAfter s = world (s .state) (s .memory)
 
-module _ (L : Layout) (stamps : List ℕ) where
+module _ (S : Setting) where
   -- the step of a world
   abbrev pub stepOf : World → Step
-  stepOf w = step L stamps (w .machine) (w .memory)
+  stepOf w = step S (w .state) (w .memory)
 
   -- a run that has made n steps stops here, or goes on to where it stops further
   abbrev pub stopOr : ℕ → World → Stop → Going → Stop
   stopOr n w further goes = further
-  stopOr n w further (stops e) = record { machine = w .machine; memory = w .memory; end = e; steps = n }
+  stopOr n w further (stops e) = record { state = w .state; memory = w .memory; end = e; steps = n }
 
   -- n steps made so far, and the budget that is left
   unfoldable pub runFrom : ℕ → ℕ → World → Stop
-  runFrom n zero w = stopOr n w (record { machine = w .machine; memory = w .memory; end = Spent; steps = n }) (ending (w .machine))
+  runFrom n zero w = stopOr n w (record { state = w .state; memory = w .memory; end = Spent; steps = n }) (ending (w .state))
   runFrom n (suc left) w =
-      let further = runFrom (n + 1) left (worldAfter (stepOf w)) in stopOr n w further (ending (w .machine))
+      let further = runFrom (n + 1) left (worldAfter (stepOf w)) in stopOr n w further (ending (w .state))
 
   -- run: its count is the number of steps made
   unfoldable pub run : ℕ → World → Stop
@@ -72,4 +69,4 @@ module _ (L : Layout) (stamps : List ℕ) where
   moves zero w = []
   moves (suc left) w =
       let further : List Move = record { before = w; after = stepOf w } ∷ moves left (worldAfter (stepOf w)) in
-      noneOr further (ending (w .machine))
+      noneOr further (ending (w .state))

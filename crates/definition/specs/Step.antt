@@ -6,17 +6,16 @@ use Rattle.base.specs.Test.{if_then_else_}
 use Rattle.isa.specs.declared.instruction.Instruction.{Instruction}
 use Rattle.isa.specs.declared.instruction.Instruction.the-variants.{Hlt, In, Out, Jz, Reti, Nop, Jmp, Mov, Store, Compute, Not}
 use Rattle.isa.specs.Cycles.{cyclesOf}
-use Rattle.layout.specs.declared.sections.Layout.{Layout}
 use Rattle.layout.specs.Sections.{inside}
-use Rattle.definition.specs.declared.state.Stamp.{Stamp}
+use Rattle.definition.specs.Setting.{Setting}
 use Rattle.definition.specs.declared.state.Time.{Time}
-use Rattle.definition.specs.declared.state.Visit.{Visit}
-use Rattle.definition.specs.declared.state.Visit.the-variants.{Free, Held}
+use Rattle.definition.specs.declared.state.SavedContext.{SavedContext}
+use Rattle.definition.specs.declared.state.SavedContext.the-variants.{Unheld, Held}
 use Rattle.definition.specs.declared.state.State.{State}
 use Rattle.definition.specs.declared.answer.Outcome.the-variants.{Ran, Halted}
 use Rattle.definition.specs.Registers.{register, pc, zeros}
 use Rattle.definition.specs.Time.{pass, setAlarm, deviceWord}
-use Rattle.definition.specs.State.{isHeld}
+use Rattle.definition.specs.State.{World, world, isHeld}
 use Rattle.definition.specs.declared.judge.Judged.{Judged}
 use Rattle.definition.specs.declared.judge.Judged.the-variants.{Faulty, Acts}
 use Rattle.definition.specs.Judge.{isReti, judge}
@@ -52,20 +51,20 @@ isHlt (Compute o s d) = false
 isHlt (Not d) = false
 
 -- where nothing is held, the saved copy is handed back zero
-abbrev pub savedFor : Visit → List ℕ → List ℕ
-savedFor Free saved = zeros
+abbrev pub savedFor : SavedContext → List ℕ → List ℕ
+savedFor Unheld saved = zeros
 savedFor (Held previous age) saved = saved
 
-module _ (L : Layout) (stamps : List ℕ) where
+module _ (S : Setting) where
   -- the machine after the instruction and its cycles; its address becomes the previous one
   unfoldable pub executed : State → List ℕ → Instruction → State
   executed m mem i =
       record {
-        registers = registersAfter (inside L (pc (m .registers))) (m .registers) (deviceWord (m .time)) mem i;
+        registers = registersAfter (inside (S .layout) (pc (m .registers))) (m .registers) (deviceWord S (m .time)) mem i;
         previous = pc (m .registers);
-        time = alarmed (m .registers) i (pass stamps (cyclesOf i) (m .time));
-        visit = m .visit;
-        saved = savedFor (m .visit) (m .saved);
+        time = alarmed (m .registers) i (pass S (cyclesOf i) (m .time));
+        context = m .context;
+        saved = savedFor (m .context) (m .saved);
         halted = isHlt i;
       }
 
@@ -75,25 +74,30 @@ module _ (L : Layout) (stamps : List ℕ) where
       let next = executed m mem i in
       let bytes = memoryAfter (m .registers) mem i in
       if next .halted then gives next bytes Halted
-      else interrupted L stamps (inside L (pc (m .registers))) Ran next bytes (due next)
+      else interrupted S (inside (S .layout) (pc (m .registers))) Ran next bytes (due next)
 
   -- RETI to a held visit, its cycles passed
   abbrev pub returning : State → List ℕ → Time → ℕ → ℕ → Step
-  returning m mem t previous age = resumed L stamps t previous age (m .saved) mem (t .slot)
+  returning m mem t previous age = resumed S t previous age (m .saved) mem (t .slot)
 
   -- RETI while a visit is held returns to it
-  unfoldable pub performed : State → List ℕ → Visit → Instruction → Step
-  performed m mem Free i = ordinary m mem i
+  unfoldable pub performed : State → List ℕ → SavedContext → Instruction → Step
+  performed m mem Unheld i = ordinary m mem i
   performed m mem (Held previous age) i =
-      if isReti i then returning m mem (pass stamps (cyclesOf i) (m .time)) previous age else ordinary m mem i
+      if isReti i then returning m mem (pass S (cyclesOf i) (m .time)) previous age else ordinary m mem i
 
   -- a cause resets, an instruction acts
   unfoldable pub stepJudged : State → List ℕ → Judged → Step
-  stepJudged m mem (Faulty c) = reset stamps c m mem
-  stepJudged m mem (Acts i) = performed m mem (m .visit) i
+  stepJudged m mem (Faulty c) = reset S c m mem
+  stepJudged m mem (Acts i) = performed m mem (m .context) i
+
+  -- what the step of a world is judged
+  abbrev pub judged : World → Judged
+  judged w =
+      let m = w .state in judge (S .layout) (isHeld (m .context)) (m .registers) (w .memory) (m .previous)
 
   -- one step; a halted machine answers "halted" unchanged
   unfoldable pub step : State → List ℕ → Step
   step m mem =
       if m .halted then gives m mem Halted
-      else stepJudged m mem (judge L (isHeld (m .visit)) (m .registers) mem (m .previous))
+      else stepJudged m mem (judged (world m mem))

@@ -35,19 +35,19 @@ pub enum End {
 
 // What start answers.
 pub enum StartAnswer {
-    Made,
+    Done,
     Refused(Refusal),
 }
 
 // What step answers: what the step did, or the refusal.
 pub enum StepAnswer {
-    Made(Outcome),
+    Done(Outcome),
     Refused(Refusal),
 }
 
 // What run answers: why it stopped and how many steps it made, or the refusal.
 pub enum RunAnswer {
-    Made(End, u64),
+    Done(End, u64),
     Refused(Refusal),
 }
 

@@ -1,5 +1,5 @@
 // What is claimed of the machine: each claim is the contract of a function with nothing to do.
-ghost use Rattle.definition.specs.Laws.{PassAdds, StepCycles, HaltedStays, FramedAtStart, FrameKept, LengthKept, OnlyDistanceOrClock, GieKeptInside, QuietAtStart, QuietKept, AgeAtMostFive, WritesOwnSide, TouchesOwnSide, TwelveInside, TwelveInReturn, PaddedByStamp, PaddingSum, BarredUnread, NoReentry, SecondElsewhereUnread, PrivilegedInside, ChainsWhateverGie, ResetAfterStore, RunCounts, RunEnds, RunAdds, RefusalsInOrder, RefusedUntouched, OutsideLocal, InsideConfined};
+ghost use Rattle.definition.specs.Laws.{PassAdds, StepCycles, HaltedStays, FramedAtStart, FrameKept, LengthKept, OnlyDistanceOrClock, GieKeptInside, NothingDueAtStart, NothingDueKept, AgeAtMostFive, WritesOwnSide, TouchesOwnSide, TwelveInside, TwelveInReturn, PaddedByStamp, PaddingSum, BarredUnread, NoReentry, SecondElsewhereUnread, PrivilegedInside, ChainsWhateverGie, ResetAfterStore, RunCounts, RunEnds, RunAdds, RefusalsInOrder, RefusedUntouched, OutsideLocal, InsideConfined};
 
 // Passing n and then m cycles is passing n + m.
 pub fn pass_adds()
@@ -42,13 +42,13 @@ pub fn gie_kept_inside()
 {}
 
 // At the start, where GIE is set the slot is empty.
-pub fn quiet_at_start()
-    ensures { λ _. ⌜ QuietAtStart ⌝ }
+pub fn nothing_due_at_start()
+    ensures { λ _. ⌜ NothingDueAtStart ⌝ }
 {}
 
 // So after every step.
-pub fn quiet_kept()
-    ensures { λ _. ⌜ QuietKept ⌝ }
+pub fn nothing_due_kept()
+    ensures { λ _. ⌜ NothingDueKept ⌝ }
 {}
 
 // The age at a padded service is at most 5.

@@ -3,4 +3,3 @@ pub mod answer;
 pub mod judge;
 pub mod laws;
 pub mod state;
-pub mod verdict;

@@ -13,9 +13,9 @@ pub struct Time {
     pub alarm: Stamp,
 }
 
-// Whether a visit is held, with its previous address and its age. Its registers stand in the state's saved copy.
-pub enum Visit {
-    Free,
+// Document 01's held visit: whether there is one, its previous address and its age. Its registers stand in the state's saved copy.
+pub enum SavedContext {
+    Unheld,
     Held { previous: u16, age: u8 },
 }
 
@@ -24,7 +24,7 @@ pub struct State {
     pub registers: [u16; 16],
     pub previous: u16,
     pub time: Time,
-    pub visit: Visit,
+    pub context: SavedContext,
     pub saved: [u16; 16],
     pub halted: bool,
 }

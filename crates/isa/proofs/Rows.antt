@@ -13,7 +13,7 @@ use Rattle.isa.specs.declared.table.Row.{Row}
 use Rattle.isa.specs.declared.table.Row.the-variants.{Hlt as HLT, In as IN, Out as OUT, Jz as JZ, Reti as RETI, Nop as NOP, Jmp as JMP, Mov as MOV, Load as LOAD, Store as STORE, Immediate as IMMEDIATE, Compute as COMPUTE, Not as NOT}
 use Rattle.isa.specs.declared.read.Begun.{Begun}
 use Rattle.isa.specs.declared.read.Begun.the-variants.{Nothing, Found}
-use Rattle.isa.specs.Table.{lineOf, rows, movable, pointer, firstWord, sDigit, dDigit}
+use Rattle.isa.specs.Table.{formatOf, rows, movable, pointer, firstWord, sDigit, dDigit}
 use Rattle.isa.specs.Words.{hasWord, begunIn, begun}
 use Rattle.isa.specs.internal.Dispatch.{ownWords, registerMoves, moves, computes, dispatch}
 
@@ -21,7 +21,7 @@ abbrev found : Row → ℕ → Begun
 found r w = Found r (sDigit r w) (dDigit r w)
 
 -- what it says that a word is in a row
-pub has : (r : Row) (w : ℕ) → w ≡ firstWord r (sDigit r w) (dDigit r w) → lineOf r .takes (sDigit r w) (dDigit r w) ≡ true
+pub has : (r : Row) (w : ℕ) → w ≡ firstWord r (sDigit r w) (dDigit r w) → formatOf r .takes (sDigit r w) (dDigit r w) ≡ true
     → hasWord r w ≡ true
 unfolding hasWord
 has r w p t = every _ (eq-eqb _ _ p, (t, tt))
@@ -30,7 +30,7 @@ pub word-of : (r : Row) (w : ℕ) → hasWord r w ≡ true → w ≡ firstWord r
 unfolding hasWord
 word-of r w e = eqb-true _ _ (each _ e .0)
 
-pub taken : (r : Row) (w : ℕ) → hasWord r w ≡ true → lineOf r .takes (sDigit r w) (dDigit r w) ≡ true
+pub taken : (r : Row) (w : ℕ) → hasWord r w ≡ true → formatOf r .takes (sDigit r w) (dDigit r w) ≡ true
 unfolding hasWord
 taken r w e = each _ e .1 .0
 

@@ -22,7 +22,7 @@ use Rattle.isa.specs.declared.read.Reading.{Reading}
 use Rattle.isa.specs.declared.read.Reading.the-variants.{Decoded, Refused}
 use Rattle.isa.specs.declared.write.Writing.{Writing}
 use Rattle.isa.specs.declared.write.Writing.the-variants.{One, Two, Refused as Unwritten}
-use Rattle.isa.specs.Table.{Place, second, last, nowhere, digitAt, lineOf, hasSecond, secondFits, firstWord, sDigit, dDigit, instructionOf, encodingOf}
+use Rattle.isa.specs.Table.{DigitPosition, second, last, nowhere, digitAt, formatOf, hasSecond, secondFits, firstWord, sDigit, dDigit, instructionOf, encodingOf}
 use Rattle.isa.specs.Cycles.{lengthOf}
 use Rattle.isa.specs.Words.{hasWord, begun, finished, reading, decodes, readingRefusal, encodable, wordsOf, written, writing, writingRefusal}
 use Rattle.isa.specs.Laws.{OneRow, firstWords, ReadThenWritten, WrittenThenRead, SecondUnread}
@@ -36,7 +36,7 @@ unread : {A : Type 0} {i : Instruction} {n : ℕ} (v : ℕ) → finished Nothing
 unfolding finished
 unread v e = refused e
 
-digit-below : (p : Place) (w : ℕ) → digitAt p w < 16
+digit-below : (p : DigitPosition) (w : ℕ) → digitAt p w < 16
 digit-below second w = omega arith
 digit-below last w = omega arith
 digit-below nowhere w = omega arith
@@ -48,7 +48,7 @@ constant (exactly u) v = 0
 constant anything v = v
 
 abbrev coded : Row → ℕ → ℕ → Encoding
-coded r w v = record { row = r; source = sDigit r w; destination = dDigit r w; word = constant (lineOf r .second) v }
+coded r w v = record { row = r; source = sDigit r w; destination = dDigit r w; word = constant (formatOf r .second) v }
 
 -- the encoding of the instruction that a row has is that row's, with its registers
 coded-back : (r : Row) (w v : ℕ) → encodingOf (instructionOf r (sDigit r w) (dDigit r w) v) ≡ coded r w v
@@ -69,11 +69,11 @@ coded-back NOT w v = refl
 coded-encodable : (r : Row) (w v : ℕ) → hasWord r w ≡ true → encodable (coded r w v) ≡ true
 unfolding encodable
 coded-encodable r w v h =
-    every _ (lt-ltb _ _ (digit-below (lineOf r .s) w), (lt-ltb _ _ (digit-below (lineOf r .d) w), (taken r w h, tt)))
+    every _ (lt-ltb _ _ (digit-below (formatOf r .s) w), (lt-ltb _ _ (digit-below (formatOf r .d) w), (taken r w h, tt)))
 
 -- as many words as the row has
-words-back : (r : Row) (s d w v : ℕ) → secondFits (lineOf r .second) v ≡ true
-    → wordsOf (lineOf r .second) w (constant (lineOf r .second) v) ≡ firstWords (lengthOf (instructionOf r s d v)) w v
+words-back : (r : Row) (s d w v : ℕ) → secondFits (formatOf r .second) v ≡ true
+    → wordsOf (formatOf r .second) w (constant (formatOf r .second) v) ≡ firstWords (lengthOf (instructionOf r s d v)) w v
 unfolding firstWords if_then_else_
 words-back HLT s d w v h = refl
 words-back IN s d w v h = refl
@@ -89,26 +89,26 @@ words-back IMMEDIATE s d w v h = refl
 words-back (COMPUTE o) s d w v h = refl
 words-back NOT s d w v h = ap (Two w) (sym (eqb-true v _ h))
 
-written-back : (r : Row) (w v : ℕ) → hasWord r w ≡ true → secondFits (lineOf r .second) v ≡ true
+written-back : (r : Row) (w v : ℕ) → hasWord r w ≡ true → secondFits (formatOf r .second) v ≡ true
     → writing (instructionOf r (sDigit r w) (dDigit r w) v)
     ≡ firstWords (lengthOf (instructionOf r (sDigit r w) (dDigit r w) v)) w v
 unfolding written
 written-back r w v h f =
     ap written (coded-back r w v) ∙ if-true _ _ _ (coded-encodable r w v h)
-    ∙ ap (λ (x : ℕ). wordsOf (lineOf r .second) x (constant (lineOf r .second) v)) (sym (word-of r w h))
+    ∙ ap (λ (x : ℕ). wordsOf (formatOf r .second) x (constant (formatOf r .second) v)) (sym (word-of r w h))
     ∙ words-back r _ _ w v f
 
 -- what a decoded row says
 record Decodes (r : Row) (s d v : ℕ) (i : Instruction) (n : ℕ) : Type 0 where
-  pub fits : secondFits (lineOf r .second) v ≡ true
+  pub fits : secondFits (formatOf r .second) v ≡ true
   pub is : instructionOf r s d v ≡ i
   pub long : lengthOf (instructionOf r s d v) ≡ n
 
 decoded-row : (r : Row) (s d v : ℕ) (i : Instruction) (n : ℕ) → finished (Found r s d) v ≡ Decoded i n → Decodes r s d v i n
 unfolding finished if_then_else_
-decoded-row r s d v i n e = go (secondFits (lineOf r .second) v) refl e
+decoded-row r s d v i n e = go (secondFits (formatOf r .second) v) refl e
   where
-    go : (t : Bool) → secondFits (lineOf r .second) v ≡ t
+    go : (t : Bool) → secondFits (formatOf r .second) v ≡ t
         → (if t then Decoded (instructionOf r s d v) (lengthOf (instructionOf r s d v)) else Refused Word) ≡ Decoded i n
         → Decodes r s d v i n
     go true h e = record { fits = h; is = cc; long = cc }
@@ -130,7 +130,7 @@ count true = 2
 count false = 1
 
 -- a length is that of the row
-row-length : (r : Row) (s d v : ℕ) → lengthOf (instructionOf r s d v) ≡ count (hasSecond (lineOf r .second))
+row-length : (r : Row) (s d v : ℕ) → lengthOf (instructionOf r s d v) ≡ count (hasSecond (formatOf r .second))
 row-length HLT s d v = refl
 row-length IN s d v = refl
 row-length OUT s d v = refl
@@ -146,7 +146,7 @@ row-length (COMPUTE o) s d v = refl
 row-length NOT s d v = refl
 
 -- a row of one word does not look at a second
-one-word-row : (r : Row) (s d v u : ℕ) → hasSecond (lineOf r .second) ≡ false → finished (Found r s d) u ≡ finished (Found r s d) v
+one-word-row : (r : Row) (s d v u : ℕ) → hasSecond (formatOf r .second) ≡ false → finished (Found r s d) u ≡ finished (Found r s d) v
 unfolding finished if_then_else_
 one-word-row HLT s d v u h = refl
 one-word-row IN s d v u h = refl
@@ -180,7 +180,7 @@ second-unread w v u i e = go (begun w) (begun-begins w) e
 
 -- the row that a first word came from
 begun-back : (r : Row) (s d : ℕ) → sDigit r (firstWord r s d) ≡ s → dDigit r (firstWord r s d) ≡ d
-    → lineOf r .takes s d ≡ true → begun (firstWord r s d) ≡ Found r s d
+    → formatOf r .takes s d ≡ true → begun (firstWord r s d) ≡ Found r s d
 begun-back r s d p q t = begun-row r (firstWord r s d) (has r (firstWord r s d) (rw (p, q)) (rw (p, q) t)) ∙ rw (p, q)
 
 -- v is the second word, where there is one, of an instruction with the constant w
@@ -193,7 +193,7 @@ Follows anything w v = v ≡ w
 record Coded (e : Encoding) : Type 0 where
   pub s : e .source < 16
   pub d : e .destination < 16
-  pub takes : lineOf (e .row) .takes (e .source) (e .destination) ≡ true
+  pub takes : formatOf (e .row) .takes (e .source) (e .destination) ≡ true
 
 coded-of : (e : Encoding) → encodable e ≡ true → Coded e
 unfolding encodable
@@ -221,7 +221,7 @@ begun-of (Compute Cmp s d) c = begun-back (COMPUTE Cmp) s d (omega (arith, c .s,
 begun-of (Compute And s d) c = begun-back (COMPUTE And) s d (omega (arith, c .s, c .d)) (omega (arith, c .s, c .d)) refl
 begun-of (Not d) c = begun-back NOT 0 d refl (omega (arith, c .d)) refl
 
-finished-of : (i : Instruction) (v : ℕ) → Follows (lineOf (encodingOf i .row) .second) (encodingOf i .word) v
+finished-of : (i : Instruction) (v : ℕ) → Follows (formatOf (encodingOf i .row) .second) (encodingOf i .word) v
     → finished (Found (encodingOf i .row) (encodingOf i .source) (encodingOf i .destination)) v ≡ Decoded i (lengthOf i)
 unfolding finished if_then_else_
 finished-of Hlt v f = refl
@@ -240,7 +240,7 @@ finished-of (Not d) v f = rw f
 
 -- an instruction that has words is read back from them
 read-back : (i : Instruction) (v : ℕ) → encodable (encodingOf i) ≡ true
-    → Follows (lineOf (encodingOf i .row) .second) (encodingOf i .word) v
+    → Follows (formatOf (encodingOf i .row) .second) (encodingOf i .word) v
     → reading (firstWord (encodingOf i .row) (encodingOf i .source) (encodingOf i .destination)) v ≡ Decoded i (lengthOf i)
 unfolding reading
 read-back i v h f =
@@ -251,7 +251,7 @@ abbrev firstOf : Encoding → ℕ
 firstOf e = firstWord (e .row) (e .source) (e .destination)
 
 abbrev wordsIn : Encoding → Writing
-wordsIn e = wordsOf (lineOf (e .row) .second) (firstOf e) (e .word)
+wordsIn e = wordsOf (formatOf (e .row) .second) (firstOf e) (e .word)
 
 wrote : (e : Encoding) (x : Writing) → (Unwritten Word ≡ x → ⊥) → written e ≡ x → (encodable e ≡ true) × (wordsIn e ≡ x)
 unfolding written if_then_else_
@@ -277,7 +277,7 @@ wrote-two none c v f w e = let z : _≡_ {A = ℕ} 0 1 = cc in absurd (omega ari
 wrote-two (exactly u) c v f w e = record { two = refl; follows = cc; first = cc }
 wrote-two anything c v f w e = record { two = refl; follows = cc; first = cc }
 
-instruction-length : (i : Instruction) → lengthOf i ≡ count (hasSecond (lineOf (encodingOf i .row) .second))
+instruction-length : (i : Instruction) → lengthOf i ≡ count (hasSecond (formatOf (encodingOf i .row) .second))
 instruction-length Hlt = refl
 instruction-length (In d) = refl
 instruction-length (Out s) = refl
@@ -293,7 +293,7 @@ instruction-length (Compute o s d) = refl
 instruction-length (Not d) = refl
 
 read-wrote : (i : Instruction) (w v : ℕ) (t : Bool) → encodable (encodingOf i) ≡ true
-    → Wrote (lineOf (encodingOf i .row) .second) (encodingOf i .word) v (firstOf (encodingOf i)) w t
+    → Wrote (formatOf (encodingOf i .row) .second) (encodingOf i .word) v (firstOf (encodingOf i)) w t
     → reading w v ≡ Decoded i (count t)
 read-wrote i w v t h k =
     ap (λ (x : ℕ). reading x v) (sym (k .first)) ∙ read-back i v h (k .follows)
@@ -322,7 +322,7 @@ pub reading-number : (b : Begun) (v : ℕ) → readingRefusal (finished b v) ≡
 unfolding finished decodes
 reading-number Nothing v = sym (if-false false 0 9 refl)
 reading-number (Found r s d) v =
-    choose (λ (x : Reading). readingRefusal x ≡ (if secondFits (lineOf r .second) v then 0 else 9)) (secondFits (lineOf r .second) v)
+    choose (λ (x : Reading). readingRefusal x ≡ (if secondFits (formatOf r .second) v then 0 else 9)) (secondFits (formatOf r .second) v)
     (λ h. sym (if-true _ _ _ h)) (λ h. sym (if-false _ _ _ h))
 
 words-taken : (x : Second) (w v : ℕ) → writingRefusal (wordsOf x w v) ≡ 0
@@ -334,4 +334,4 @@ pub writing-number : (e : Encoding) → writingRefusal (written e) ≡ (if encod
 unfolding written
 writing-number e =
     choose (λ (x : Writing). writingRefusal x ≡ (if encodable e then 0 else 9)) (encodable e)
-    (λ h. words-taken (lineOf (e .row) .second) _ (e .word) ∙ sym (if-true _ _ _ h)) (λ h. sym (if-false _ _ _ h))
+    (λ h. words-taken (formatOf (e .row) .second) _ (e .word) ∙ sym (if-true _ _ _ h)) (λ h. sym (if-false _ _ _ h))

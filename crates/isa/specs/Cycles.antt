@@ -7,25 +7,25 @@ use Rattle.isa.specs.declared.table.Row.{Row}
 use Rattle.isa.specs.declared.table.Row.the-variants.{Hlt as HLT, In as IN, Out as OUT, Jz as JZ, Reti as RETI, Nop as NOP, Jmp as JMP, Mov as MOV, Load as LOAD, Store as STORE, Immediate as IMMEDIATE, Compute as COMPUTE, Not as NOT}
 use Rattle.isa.specs.Table.{encodingOf}
 
--- the line of the table that a row stands on, from 0
-abbrev pub rowNumber : Row → ℕ
-rowNumber HLT = 0
-rowNumber IN = 1
-rowNumber OUT = 2
-rowNumber JZ = 3
-rowNumber RETI = 4
-rowNumber NOP = 5
-rowNumber JMP = 6
-rowNumber MOV = 7
-rowNumber LOAD = 8
-rowNumber STORE = 9
-rowNumber IMMEDIATE = 10
-rowNumber (COMPUTE o) = 11
-rowNumber NOT = 12
+-- the kind of a row: the line of the table that it stands on, from 0
+abbrev pub rowKind : Row → ℕ
+rowKind HLT = 0
+rowKind IN = 1
+rowKind OUT = 2
+rowKind JZ = 3
+rowKind RETI = 4
+rowKind NOP = 5
+rowKind JMP = 6
+rowKind MOV = 7
+rowKind LOAD = 8
+rowKind STORE = 9
+rowKind IMMEDIATE = 10
+rowKind (COMPUTE o) = 11
+rowKind NOT = 12
 
 -- the kind of an instruction
 abbrev pub kindOf : Instruction → ℕ
-kindOf i = rowNumber (encodingOf i .row)
+kindOf i = rowKind (encodingOf i .row)
 
 -- the cycles, by kind
 abbrev pub cycleTable : List ℕ

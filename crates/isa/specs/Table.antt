@@ -16,20 +16,20 @@ use Rattle.isa.specs.declared.table.Second.the-variants.{Nothing as none
 use Rattle.isa.specs.declared.table.Encoding.{Encoding}
 
 -- where a register's digit stands in a first word: second from the left, last, or nowhere
-pub data Place : Type 0 where
-  second last nowhere : Place
+pub data DigitPosition : Type 0 where
+  second last nowhere : DigitPosition
 
--- a line of the table: the first word with 0 for s and d, the places of s and d, which registers may stand there, the second word
-pub record Line : Type 0 where
+-- a row's format: the first word with 0 for s and d, the positions of s and d, which registers may stand there, the second word
+pub record Format : Type 0 where
   pub fixed : ℕ
-  pub s : Place
-  pub d : Place
+  pub s : DigitPosition
+  pub d : DigitPosition
   pub takes : ℕ → ℕ → Bool
   pub second : Second
 
--- a line in the order of its columns
-abbrev line : ℕ → Place → Place → (ℕ → ℕ → Bool) → Second → Line
-line f s d t w = record { fixed = f; s = s; d = d; takes = t; second = w }
+-- a format in the order of its columns
+abbrev format : ℕ → DigitPosition → DigitPosition → (ℕ → ℕ → Bool) → Second → Format
+format f s d t w = record { fixed = f; s = s; d = d; takes = t; second = w }
 
 -- a register that may hold an address: not 0, 2, 3
 unfoldable pub pointer : ℕ → Bool
@@ -59,20 +59,20 @@ operationWord Cmp = 0x9000
 operationWord And = 0xF000
 
 -- the table
-abbrev pub lineOf : Row → Line
-lineOf HLT = line 0x0001 nowhere nowhere anyRegisters none
-lineOf IN = line 0x0010 nowhere last anyRegisters none
-lineOf OUT = line 0x0020 last nowhere anyRegisters none
-lineOf JZ = line 0x0030 last nowhere anyRegisters none
-lineOf RETI = line 0x1300 nowhere nowhere anyRegisters none
-lineOf NOP = line 0x4303 nowhere nowhere anyRegisters none
-lineOf JMP = line 0x4000 second nowhere anyRegisters none
-lineOf MOV = line 0x4000 second last movable none
-lineOf LOAD = line 0x4020 second last sPoints none
-lineOf STORE = line 0x4080 second last dPoints (exactly 0x0000)
-lineOf IMMEDIATE = line 0x4030 nowhere last anyRegisters anything
-lineOf (COMPUTE o) = line (operationWord o) second last anyRegisters none
-lineOf NOT = line 0xE030 nowhere last anyRegisters (exactly 0xFFFF)
+abbrev pub formatOf : Row → Format
+formatOf HLT = format 0x0001 nowhere nowhere anyRegisters none
+formatOf IN = format 0x0010 nowhere last anyRegisters none
+formatOf OUT = format 0x0020 last nowhere anyRegisters none
+formatOf JZ = format 0x0030 last nowhere anyRegisters none
+formatOf RETI = format 0x1300 nowhere nowhere anyRegisters none
+formatOf NOP = format 0x4303 nowhere nowhere anyRegisters none
+formatOf JMP = format 0x4000 second nowhere anyRegisters none
+formatOf MOV = format 0x4000 second last movable none
+formatOf LOAD = format 0x4020 second last sPoints none
+formatOf STORE = format 0x4080 second last dPoints (exactly 0x0000)
+formatOf IMMEDIATE = format 0x4030 nowhere last anyRegisters anything
+formatOf (COMPUTE o) = format (operationWord o) second last anyRegisters none
+formatOf NOT = format 0xE030 nowhere last anyRegisters (exactly 0xFFFF)
 
 -- the rows in document 01's order
 abbrev pub rows : List Row
@@ -92,29 +92,29 @@ secondFits none v = true
 secondFits (exactly u) v = eqb v u
 secondFits anything v = true
 
--- what a digit counts at its place
-abbrev pub weight : Place → ℕ
+-- what a digit counts at its position
+abbrev pub weight : DigitPosition → ℕ
 weight second = 256
 weight last = 1
 weight nowhere = 0
 
--- the digit of a word at a place
-abbrev pub digitAt : Place → ℕ → ℕ
+-- the digit of a word at a position
+abbrev pub digitAt : DigitPosition → ℕ → ℕ
 digitAt second w = w / 256 % 16
 digitAt last w = w % 16
 digitAt nowhere w = 0
 
 -- the row's first word with the registers s and d
 unfoldable pub firstWord : Row → ℕ → ℕ → ℕ
-firstWord r s d = lineOf r .fixed + s * weight (lineOf r .s) + d * weight (lineOf r .d)
+firstWord r s d = formatOf r .fixed + s * weight (formatOf r .s) + d * weight (formatOf r .d)
 
 -- the register digits of a first word in a row
 abbrev pub sDigit : Row → ℕ → ℕ
-sDigit r w = digitAt (lineOf r .s) w
+sDigit r w = digitAt (formatOf r .s) w
 
 -- the digit d of a first word in a row
 abbrev pub dDigit : Row → ℕ → ℕ
-dDigit r w = digitAt (lineOf r .d) w
+dDigit r w = digitAt (formatOf r .d) w
 
 -- the instruction that a row has for the registers s and d and the second word w
 abbrev pub instructionOf : Row → ℕ → ℕ → ℕ → Instruction

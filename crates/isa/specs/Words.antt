@@ -17,12 +17,12 @@ use Rattle.isa.specs.declared.read.Reading.{Reading}
 use Rattle.isa.specs.declared.read.Reading.the-variants.{Decoded, Refused}
 use Rattle.isa.specs.declared.write.Writing.{Writing}
 use Rattle.isa.specs.declared.write.Writing.the-variants.{One, Two, Refused as Unwritten}
-use Rattle.isa.specs.Table.{hasSecond, secondFits, lineOf, rows, firstWord, sDigit, dDigit, instructionOf, encodingOf}
+use Rattle.isa.specs.Table.{hasSecond, secondFits, formatOf, rows, firstWord, sDigit, dDigit, instructionOf, encodingOf}
 use Rattle.isa.specs.Cycles.{lengthOf}
 
 -- a first word is in a row: it is the row's with the registers that stand in it, and the row takes these
 unfoldable pub hasWord : Row → ℕ → Bool
-hasWord r w = all (eqb w (firstWord r (sDigit r w) (dDigit r w)) ∷ lineOf r .takes (sDigit r w) (dDigit r w) ∷ [])
+hasWord r w = all (eqb w (firstWord r (sDigit r w) (dDigit r w)) ∷ formatOf r .takes (sDigit r w) (dDigit r w) ∷ [])
 
 -- the first of these rows that has the word
 unfoldable pub begunIn : List Row → ℕ → Begun
@@ -36,7 +36,7 @@ begun w = begunIn rows w
 -- the instruction begun has a second word
 unfoldable pub twoWords : Begun → Bool
 twoWords Nothing = false
-twoWords (Found r s d) = hasSecond (lineOf r .second)
+twoWords (Found r s d) = hasSecond (formatOf r .second)
 
 -- an instruction with its length
 abbrev decoded : Instruction → Reading
@@ -45,7 +45,7 @@ decoded i = Decoded i (lengthOf i)
 -- the instruction begun, with the second word v
 unfoldable pub finished : Begun → ℕ → Reading
 finished Nothing v = Refused Word
-finished (Found r s d) v = if secondFits (lineOf r .second) v then decoded (instructionOf r s d v) else Refused Word
+finished (Found r s d) v = if secondFits (formatOf r .second) v then decoded (instructionOf r s d v) else Refused Word
 
 -- reading: the instruction that two words begin with and its length, or refusal 9
 unfoldable pub reading : ℕ → ℕ → Reading
@@ -54,7 +54,7 @@ reading w v = finished (begun w) v
 -- the two words begin with an instruction
 unfoldable pub decodes : Begun → ℕ → Bool
 decodes Nothing v = false
-decodes (Found r s d) v = secondFits (lineOf r .second) v
+decodes (Found r s d) v = secondFits (formatOf r .second) v
 
 -- the number of the refusal, 0 where there is none
 abbrev pub readingRefusal : Reading → ℕ
@@ -63,7 +63,7 @@ readingRefusal (Refused r) = refusalNumber r
 
 -- there are words for the encoding: its registers are digits, and its row takes them
 unfoldable pub encodable : Encoding → Bool
-encodable e = all (ltb (e .source) 16 ∷ ltb (e .destination) 16 ∷ lineOf (e .row) .takes (e .source) (e .destination) ∷ [])
+encodable e = all (ltb (e .source) 16 ∷ ltb (e .destination) 16 ∷ formatOf (e .row) .takes (e .source) (e .destination) ∷ [])
 
 -- exactly the words of an encoding
 abbrev pub wordsOf : Second → ℕ → ℕ → Writing
@@ -74,7 +74,7 @@ wordsOf anything w v = Two w v
 -- the words of an encoding, if it has words
 unfoldable pub written : Encoding → Writing
 written e =
-    if encodable e then wordsOf (lineOf (e .row) .second) (firstWord (e .row) (e .source) (e .destination)) (e .word)
+    if encodable e then wordsOf (formatOf (e .row) .second) (firstWord (e .row) (e .source) (e .destination)) (e .word)
     else Unwritten Word
 
 -- writing: exactly the instruction's words, or refusal 9

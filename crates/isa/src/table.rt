@@ -1,7 +1,7 @@
 // The table of instruction words, by row, and the constant tables of cycles and lengths, by kind.
 ghost use mathlib.Core.Path.{_≡_};
 ghost use Prim.Native.Nat.{_<_};
-ghost use Rattle.isa.specs.Table.{hasSecond, secondFits, lineOf, encodingOf, instructionOf};
+ghost use Rattle.isa.specs.Table.{hasSecond, secondFits, formatOf, encodingOf, instructionOf};
 ghost use Rattle.isa.specs.Cycles.{kindOf, cyclesOf, lengthOf};
 use crate::instruction::Instruction;
 use crate::instruction::Operand;
@@ -166,7 +166,7 @@ impl Instruction {
 impl Row {
     // The row's second word.
     pub fn second(self) -> Second
-        ensures { λ r. ⌜ r ≡ lineOf self .second ⌝ }
+        ensures { λ r. ⌜ r ≡ formatOf self .second ⌝ }
     {
         match self {
             Row::Hlt => Second::Nothing,

@@ -2,7 +2,7 @@
 ghost use mathlib.Core.Path.{_≡_};
 ghost use Prim.Native.Nat.{_<_, _≤_};
 ghost use Rattle.base.specs.Test.{if_then_else_};
-ghost use Rattle.isa.specs.Table.{operationWord, lineOf, movable, firstWord, encodingOf};
+ghost use Rattle.isa.specs.Table.{operationWord, formatOf, movable, firstWord, encodingOf};
 ghost use Rattle.isa.specs.Words.{encodable, wordsOf, written, writing, writingRefusal};
 use crate::instruction::Instruction;
 use crate::instruction::Operation;
@@ -33,7 +33,7 @@ fn is_movable(s: u8, d: u8) -> bool
 
 // The row takes the registers.
 fn takes_registers(row: Row, s: u8, d: u8) -> bool
-    ensures { λ r. ⌜ r ≡ lineOf row .takes s d ⌝ }
+    ensures { λ r. ⌜ r ≡ formatOf row .takes s d ⌝ }
 {
     match row {
         Row::Hlt => true,

@@ -3,5 +3,5 @@ pub mod SpanLaws
 pub mod SectionLaws
 pub mod RuleLaws
 pub mod LayoutLaws
-pub mod PlaceLaws
+pub mod ColumnLaws
 pub mod AccessLaws

@@ -9,8 +9,8 @@ use Rattle.layout.specs.declared.sections.Layout.{Layout}
 use Rattle.layout.specs.declared.sections.Section.{Section}
 use Rattle.layout.specs.declared.access.Right.{Right}
 use Rattle.layout.specs.declared.access.Right.the-variants.{Execute, Read, Write}
-use Rattle.layout.specs.declared.access.Place.{Place}
-use Rattle.layout.specs.declared.access.Place.the-variants.{Entry, OtherCode, Data, Outside}
+use Rattle.layout.specs.declared.access.Column.{Column}
+use Rattle.layout.specs.declared.access.Column.the-variants.{Entry, OtherCode, Data, Outside}
 use Rattle.layout.specs.declared.access.Rights.{Rights}
 use Rattle.layout.specs.declared.access.Rights.the-variants.{Nothing, ExecuteOnly, ReadWrite, AllThree}
 use Rattle.layout.specs.declared.access.Access.{Access}
@@ -19,7 +19,7 @@ use Rattle.layout.specs.Sections.{section, inside, entry}
 use Rattle.layout.specs.Rules.{accepted}
 
 -- the access table: the row of an instruction inside, and that of one elsewhere
-abbrev pub cell : Bool → Place → Rights
+abbrev pub cell : Bool → Column → Rights
 cell true Entry = ExecuteOnly
 cell true OtherCode = ExecuteOnly
 cell true Data = ReadWrite
@@ -47,18 +47,18 @@ touches Read = true
 touches Write = true
 
 -- the column of an address in a section, where code has its own
-abbrev pub column : Section → Place → Place
-column Section.Outside code = Outside
-column Section.Code code = code
-column Section.Data code = Data
+abbrev pub sectionColumn : Section → Column → Column
+sectionColumn Section.Outside code = Outside
+sectionColumn Section.Code code = code
+sectionColumn Section.Data code = Data
 
 -- the column of an address
-unfoldable pub place : Layout → ℕ → Place
-place L a = column (section L a) (if eqb a (entry L) then Entry else OtherCode)
+unfoldable pub columnOf : Layout → ℕ → Column
+columnOf L a = sectionColumn (section L a) (if eqb a (entry L) then Entry else OtherCode)
 
 -- an instruction at the first address may do this to the byte at the second
 unfoldable pub may : Layout → ℕ → Right → ℕ → Bool
-may L from right a = grant (cell (inside L from) (place L a)) right
+may L from right a = grant (cell (inside L from) (columnOf L a)) right
 
 -- what a caller is told
 unfoldable pub accessAnswer : Layout → ℕ → Right → ℕ → Access

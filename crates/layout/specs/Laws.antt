@@ -2,7 +2,7 @@
 use Prim.Native.Nat.{ℕ, _+_, _≤_}
 use mathlib.Core.Path.{_≡_}
 use mathlib.Core.Bool.{true, false}
-use Rattle.base.specs.Word.{even}
+use Rattle.base.specs.Word.{dropBit0}
 use Rattle.layout.specs.declared.sections.Span.{Span}
 use Rattle.layout.specs.declared.sections.Layout.{Layout}
 use Rattle.layout.specs.declared.sections.Section.the-variants.{Outside, Data}
@@ -14,7 +14,7 @@ use Rattle.layout.specs.Access.{touches, may}
 
 -- the two bytes of a word lie in one section
 abbrev pub WordInOneSection : Type 0
-WordInOneSection = (L : Layout) (a : ℕ) → accepted L ≡ true → section L (even a + 1) ≡ section L (even a)
+WordInOneSection = (L : Layout) (a : ℕ) → accepted L ≡ true → section L (dropBit0 a + 1) ≡ section L (dropBit0 a)
 
 -- FFFE, FFFF and all above lie in no section
 abbrev pub VectorOutside : Type 0
@@ -60,4 +60,4 @@ InsideTouchesData =
 abbrev pub WordTouchedWhole : Type 0
 WordTouchedWhole =
     (L : Layout) (from a : ℕ) (right : Right) → accepted L ≡ true → touches right ≡ true
-    → may L from right (even a + 1) ≡ may L from right (even a)
+    → may L from right (dropBit0 a + 1) ≡ may L from right (dropBit0 a)

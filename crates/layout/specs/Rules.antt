@@ -3,19 +3,21 @@ use Prim.Native.Nat.{ℕ}
 use mathlib.Core.Bool.{Bool, true, false}
 use mathlib.Core.List.{List, [], _∷_}
 use lib.Dec.{leb, ltb}
-use Rattle.base.specs.Test.{if_then_else_, all, any}
+use Rattle.base.specs.Test.{all, any}
+use Rattle.base.specs.FirstFailure.{Test, test, firstFailure}
+use Rattle.base.specs.Limits.{memoryBytes}
 use Rattle.base.specs.Word.{isEven}
 use Rattle.layout.specs.declared.sections.Span.{Span}
 use Rattle.layout.specs.declared.sections.Layout.{Layout}
 use Rattle.layout.specs.declared.rules.Rule.{Rule}
 use Rattle.layout.specs.declared.rules.Rule.the-variants.{Odd, Empty, Overlap, Service}
 use Rattle.layout.specs.declared.rules.Fault.{Fault}
-use Rattle.layout.specs.declared.rules.Fault.the-variants.{Sound, Broken}
+use Rattle.layout.specs.declared.rules.Fault.the-variants.{Unbroken, Broken}
 use Rattle.layout.specs.Sections.{outside}
 
 -- an even 16-bit address; a number of a definition has no width of its own
 unfoldable pub evenAddress : ℕ → Bool
-evenAddress a = all (ltb a 65536 ∷ isEven a ∷ [])
+evenAddress a = all (ltb a memoryBytes ∷ isEven a ∷ [])
 
 -- a section's start and end are even addresses
 unfoldable pub evenSpan : Span → Bool
@@ -37,35 +39,21 @@ allEven L = all (evenSpan (L .code) ∷ evenSpan (L .«data») ∷ evenAddress (
 unfoldable pub allFilled : Layout → Bool
 allFilled L = all (filled (L .code) ∷ filled (L .«data») ∷ [])
 
--- a rule, and whether a layout keeps it
-pub record Tested : Type 0 where
-  pub rule : Rule
-  pub kept : Bool
-
 -- the rules in document 01's order
-abbrev pub rules : Layout → List Tested
+abbrev pub rules : Layout → List (Test Rule)
 rules L =
-    record { rule = Odd; kept = allEven L }
-    ∷ record { rule = Empty; kept = allFilled L }
-    ∷ record { rule = Overlap; kept = apart (L .code) (L .«data») }
-    ∷ record { rule = Service; kept = outside L (L .service) }
-    ∷ []
-
--- the first rule of the list that is not kept
-unfoldable pub firstBroken : List Tested → Fault
-unfolding if_then_else_
-firstBroken [] = Sound
-firstBroken (t ∷ ts) = if t .kept then firstBroken ts else Broken (t .rule)
+    test Odd (allEven L) ∷ test Empty (allFilled L) ∷ test Overlap (apart (L .code) (L .«data»))
+    ∷ test Service (outside L (L .service)) ∷ []
 
 -- the first rule that a layout breaks, if any
 unfoldable pub layoutFault : Layout → Fault
-layoutFault L = firstBroken (rules L)
+layoutFault L = firstFailure Unbroken Broken (rules L)
 
 -- no rule is broken
-abbrev pub isSound : Fault → Bool
-isSound Sound = true
-isSound (Broken rule) = false
+abbrev pub isUnbroken : Fault → Bool
+isUnbroken Unbroken = true
+isUnbroken (Broken rule) = false
 
 -- a layout that breaks no rule is accepted
 unfoldable pub accepted : Layout → Bool
-accepted L = isSound (layoutFault L)
+accepted L = isUnbroken (layoutFault L)

@@ -2,7 +2,7 @@
 ghost use mathlib.Core.Path.{_≡_};
 ghost use Rattle.base.specs.Test.{if_then_else_};
 ghost use Rattle.layout.specs.Rules.{accepted};
-ghost use Rattle.layout.specs.Access.{place, cell, grant, may, accessAnswer, accessRefusal};
+ghost use Rattle.layout.specs.Access.{columnOf, cell, grant, may, accessAnswer, accessRefusal};
 use crate::sections::Layout;
 use crate::sections::Section;
 use base::refusal::Refusal;
@@ -15,7 +15,7 @@ pub enum Right {
 }
 
 // The columns of the table.
-pub enum Place {
+pub enum Column {
     Entry,
     OtherCode,
     Data,
@@ -38,22 +38,22 @@ pub enum Access {
 }
 
 // The cell of a row, inside or elsewhere, and a column.
-fn cell(inside: bool, place: Place) -> Rights
-    ensures { λ r. ⌜ r ≡ cell inside place ⌝ }
+fn cell(inside: bool, column: Column) -> Rights
+    ensures { λ r. ⌜ r ≡ cell inside column ⌝ }
 {
     if inside {
-        match place {
-            Place::Entry => Rights::ExecuteOnly,
-            Place::OtherCode => Rights::ExecuteOnly,
-            Place::Data => Rights::ReadWrite,
-            Place::Outside => Rights::ExecuteOnly,
+        match column {
+            Column::Entry => Rights::ExecuteOnly,
+            Column::OtherCode => Rights::ExecuteOnly,
+            Column::Data => Rights::ReadWrite,
+            Column::Outside => Rights::ExecuteOnly,
         }
     } else {
-        match place {
-            Place::Entry => Rights::ExecuteOnly,
-            Place::OtherCode => Rights::Nothing,
-            Place::Data => Rights::Nothing,
-            Place::Outside => Rights::AllThree,
+        match column {
+            Column::Entry => Rights::ExecuteOnly,
+            Column::OtherCode => Rights::Nothing,
+            Column::Data => Rights::Nothing,
+            Column::Outside => Rights::AllThree,
         }
     }
 }
@@ -82,18 +82,18 @@ impl Rights {
 
 impl Layout {
     // The column of an address.
-    pub fn place(self, a: u16) -> Place
-        ensures { λ r. ⌜ r ≡ place self a ⌝ }
+    pub fn column_of(self, a: u16) -> Column
+        ensures { λ r. ⌜ r ≡ columnOf self a ⌝ }
     {
         let code = self.code;
         match self.section(a) {
-            Section::Outside => Place::Outside,
-            Section::Data => Place::Data,
+            Section::Outside => Column::Outside,
+            Section::Data => Column::Data,
             Section::Code => {
                 if a == code.start {
-                    Place::Entry
+                    Column::Entry
                 } else {
-                    Place::OtherCode
+                    Column::OtherCode
                 }
             }
         }
@@ -103,7 +103,7 @@ impl Layout {
     pub fn may(self, from: u16, right: Right, a: u16) -> bool
         ensures { λ r. ⌜ r ≡ may self from right a ⌝ }
     {
-        cell(self.inside(from), self.place(a)).grant(right)
+        cell(self.inside(from), self.column_of(a)).grant(right)
     }
 
     // A caller's question: may an instruction at `from` do this to the byte at `a`?

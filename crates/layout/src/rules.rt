@@ -15,7 +15,7 @@ pub enum Rule {
 
 // The first rule that a layout breaks, if any.
 pub enum Fault {
-    Sound,
+    Unbroken,
     Broken(Rule),
 }
 
@@ -86,7 +86,7 @@ impl Layout {
         if !self.outside(self.service) {
             return Fault::Broken(Rule::Service);
         }
-        Fault::Sound
+        Fault::Unbroken
     }
 
     // No rule is broken.
@@ -94,7 +94,7 @@ impl Layout {
         ensures { λ r. ⌜ r ≡ accepted self ⌝ }
     {
         match self.fault() {
-            Fault::Sound => true,
+            Fault::Unbroken => true,
             Fault::Broken(_) => false,
         }
     }

@@ -9,13 +9,13 @@ use lib.ListN.{length}
 use borrow.Author.Tests.{leb-true, leb-false, le-leb}
 use Rattle.base.specs.Test.{if_then_else_, any}
 use Rattle.base.proofs.Tests.{cases, if-true}
-use Rattle.layout.specs.declared.sections.Layout.{Layout}
 use Rattle.layout.specs.Sections.{outside}
 use Rattle.layout.specs.Rules.{accepted}
+use Rattle.definition.specs.Setting.{Setting}
 use Rattle.definition.specs.declared.state.Stamp.{Stamp}
 use Rattle.definition.specs.declared.state.Stamp.the-variants.{Never, At}
 use Rattle.definition.specs.declared.state.Time.{Time}
-use Rattle.definition.specs.declared.state.Visit.the-variants.{Free, Held}
+use Rattle.definition.specs.declared.state.SavedContext.the-variants.{Unheld, Held}
 use Rattle.definition.specs.Registers.{pc}
 use Rattle.definition.specs.Time.{pass, emptied}
 use Rattle.definition.specs.State.{World, isHeld}
@@ -26,37 +26,37 @@ use Rattle.definition.proofs.time.PassLaws.{pass-adds, pass-clock, pass-filled,
 use Rattle.definition.proofs.separation.ViewLaws.{same-sym, same-trans}
 use Rattle.secrecy.specs.Sighting.{Sighting, sightings}
 use Rattle.secrecy.specs.Visit.{Way, leaving, ownReset, Fate, unended, ended, Visit, Phase, away, visiting, visits, fateAt, endedBy}
-use Rattle.secrecy.specs.Secrecy.{Alike, BothEnded, Premise, AgreeAsFar, complete, Agree}
+use Rattle.secrecy.specs.Secrecy.{EqualEnds, BothEnded, Premise, AgreeAsFar, complete, Agree}
 use Rattle.secrecy.proofs.Chain.{endOf, Chain}
 use Rattle.secrecy.proofs.Ways.{BrokenInto}
 use Rattle.secrecy.proofs.Visiting.{Good, wayCycles, Least, phase-held, least, silent}
-use Rattle.secrecy.proofs.Jump.{endAt, Beyond, Rest, Unasked, Emerges, short, late, departed, ownFall, served}
+use Rattle.secrecy.proofs.Jump.{endAt, Beyond, Rest, Unasked, Emerges, short, late, departed, selfReset, served}
 
 -- ---- the slot, by how many cycles have passed
 
-module _ (stamps : List ℕ) (t : Time) where
-  pass-on : (a b : ℕ) → a ≤ b → pass stamps (b - a) (pass stamps a t) ≡ pass stamps b t
+module _ (S : Setting) (t : Time) where
+  pass-on : (a b : ℕ) → a ≤ b → pass S (b - a) (pass S a t) ≡ pass S b t
   unfolding PassAdds
-  pass-on a b h = let q : a + (b - a) ≡ b = omega arith in pass-adds stamps a (b - a) t ∙ ap (λ (z : ℕ). pass stamps z t) q
+  pass-on a b h = let q : a + (b - a) ≡ b = omega arith in pass-adds S a (b - a) t ∙ ap (λ (z : ℕ). pass S z t) q
 
-  slot-on : (a b s : ℕ) → a ≤ b → pass stamps a t .slot ≡ At s → pass stamps b t .slot ≡ At s
-  slot-on a b s h e = ap (λ (z : Time). z .slot) (sym (pass-on a b h)) ∙ slot-kept stamps (b - a) (pass stamps a t) s e
+  slot-on : (a b s : ℕ) → a ≤ b → pass S a t .slot ≡ At s → pass S b t .slot ≡ At s
+  slot-on a b s h e = ap (λ (z : Time). z .slot) (sym (pass-on a b h)) ∙ slot-kept S (b - a) (pass S a t) s e
 
   not-never : {A : Type 0} (x : Stamp) (s : ℕ) → x ≡ At s → x ≡ Never → A
   not-never x s e f = let z : _≡_ {A = ℕ} 0 1 = cc in absurd (omega arith)
 
   -- a slot that is empty after a cycles is filled by a later stamp
-  slot-later : (a b s : ℕ) → pass stamps a t .slot ≡ Never → pass stamps b t .slot ≡ At s → t .clock + a < s
+  slot-later : (a b s : ℕ) → pass S a t .slot ≡ Never → pass S b t .slot ≡ At s → t .clock + a < s
   slot-later a b s e f =
       cases (leb a b)
       (λ h.
-      let c = pass-clock stamps a t in
-      let u = pass-filled stamps (b - a) (pass stamps a t) s e (ap (λ (z : Time). z .slot) (pass-on a b (leb-true a b h)) ∙ f) .0 in
+      let c = pass-clock S a t in
+      let u = pass-filled S (b - a) (pass S a t) s e (ap (λ (z : Time). z .slot) (pass-on a b (leb-true a b h)) ∙ f) .0 in
       omega arith)
       (λ h. not-never _ s (slot-on b a s (let l = leb-false a b h in omega arith) f) e)
 
   -- it is filled but once
-  slot-once : (a b s u : ℕ) → pass stamps a t .slot ≡ At s → pass stamps b t .slot ≡ At u → s ≡ u
+  slot-once : (a b s u : ℕ) → pass S a t .slot ≡ At s → pass S b t .slot ≡ At u → s ≡ u
   slot-once a b s u e f =
       cases (leb a b)
       (λ h. same _ (slot-on a b s (leb-true a b h) e) f)
@@ -93,19 +93,19 @@ module _ (T : ℕ) where
 -- ---- the premise
 
 -- two fates are ends alike
-abbrev EndedAlike : Fate → Fate → Type 0
-EndedAlike f h = BothEnded Alike f h
+abbrev EndedEqual : Fate → Fate → Type 0
+EndedEqual f h = BothEnded EqualEnds f h
 
 -- an end with these own cycles, in this way, with these registers; the clock is not asked
 abbrev EndsAs : ℕ → Way → List ℕ → Fate → Type 0
-EndsAs own way registers f = EndedAlike (endAt 0 own way registers) f
+EndsAs own way registers f = EndedEqual (endAt 0 own way registers) f
 
-clock-unasked : (c own : ℕ) (way : Way) (registers : List ℕ) (f : Fate) → EndedAlike (endAt c own way registers) f
+clock-unasked : (c own : ℕ) (way : Way) (registers : List ℕ) (f : Fate) → EndedEqual (endAt c own way registers) f
     → EndsAs own way registers f
 clock-unasked c own way registers unended x = x
 clock-unasked c own way registers (ended e) x = x
 
-ended-sym : (f h : Fate) → EndedAlike f h → EndedAlike h f
+ended-sym : (f h : Fate) → EndedEqual f h → EndedEqual h f
 ended-sym unended h x = absurd x
 ended-sym (ended e) unended x = absurd x
 ended-sym (ended e) (ended d) x = (sym (x .0), sym (x .1), sym (x .2))
@@ -124,13 +124,13 @@ module _ (T : ℕ) (xs ys : List Visit) (premise : Premise T xs ys) (c own : ℕ
   pub first-alike : fateAt xs 0 ≡ endAt c own way registers → EndsAs own way registers (fateAt ys 0)
   first-alike e =
       clock-unasked c own way registers (fateAt ys 0)
-      (subst (λ (z : Fate). EndedAlike z (fateAt ys 0)) e
+      (subst (λ (z : Fate). EndedEqual z (fateAt ys 0)) e
       (premise 0 (any-first _ _ (ap (endedBy T) e ∙ le-leb c T h))))
 
   pub second-alike : fateAt ys 0 ≡ endAt c own way registers → EndsAs own way registers (fateAt xs 0)
   second-alike e =
       clock-unasked c own way registers (fateAt xs 0)
-      (subst (λ (z : Fate). EndedAlike z (fateAt xs 0)) e
+      (subst (λ (z : Fate). EndedEqual z (fateAt xs 0)) e
       (ended-sym (fateAt xs 0) (fateAt ys 0) (premise 0 (any-second _ _ (ap (endedBy T) e ∙ le-leb c T h)))))
 
 pub premise-tail : (T : ℕ) {xs ys : List Visit} (x y : Visit) {xs′ ys′ : List Visit} → xs ≡ x ∷ xs′ → ys ≡ y ∷ ys′
@@ -162,31 +162,31 @@ not-both d i j rs us f x e = let z = ap wayCycles (both-ends d i j leaving ownRe
 
 -- ---- two worlds in step
 
-module _ (L : Layout) where
+module _ (S : Setting) where
   -- no visit goes on; both are left with this step; both are held, with equal own cycles but for their ages
   pub data Paired (a b : World) (p q : Phase) : Type 0 where
-    aways : a .machine .visit ≡ Free → b .machine .visit ≡ Free → p ≡ away → q ≡ away → Paired a b p q
-    leavings : a .machine .visit ≡ Free → b .machine .visit ≡ Free → outside L (pc (a .machine .registers)) ≡ true
+    bothAway : a .state .context ≡ Unheld → b .state .context ≡ Unheld → p ≡ away → q ≡ away → Paired a b p q
+    bothLeaving : a .state .context ≡ Unheld → b .state .context ≡ Unheld → outside (S .layout) (pc (a .state .registers)) ≡ true
         → (s j u k : ℕ) → p ≡ visiting s j → q ≡ visiting u k → Paired a b p q
-    helds : (r i u k s t own : ℕ) → a .machine .visit ≡ Held r i → b .machine .visit ≡ Held u k
+    bothHeld : (r i u k s t own : ℕ) → a .state .context ≡ Held r i → b .state .context ≡ Held u k
         → p ≡ visiting s (own + i) → q ≡ visiting t (own + k) → Paired a b p q
 
   pub record InStep (a b : World) (p q : Phase) : Type 0 where
-    pub view : SameView L a b
+    pub view : SameView S a b
     pub paired : Paired a b p q
 
-module _ (L : Layout) (fit : accepted L ≡ true) (stamps : List ℕ) (T : ℕ) where
+module _ (S : Setting) (fit : accepted (S .layout) ≡ true) (T : ℕ) where
   -- what is to be proved of all shorter runs
   abbrev pub Later : ℕ → Type 0
   Later len =
-      (a b : World) (p q : Phase) (vs us : List Move) → Chain L stamps a vs → Chain L stamps b us → Good L (a .machine) p
-      → Good L (b .machine) q
-      → InStep L a b p q → Premise T (visits L p vs) (visits L q us) → length vs < len
-      → Agree T (endOf a vs) (endOf b us) (sightings L T vs) (sightings L T us)
+      (a b : World) (p q : Phase) (vs us : List Move) → Chain S a vs → Chain S b us → Good S (a .state) p
+      → Good S (b .state) q
+      → InStep S a b p q → Premise T (visits S p vs) (visits S q us) → length vs < len
+      → Agree T (endOf a vs) (endOf b us) (sightings S T vs) (sightings S T us)
 
   rests-agree : {ss us : List Sighting} {xs ys : List Visit} {a b : World} (m n : ℕ)
-      (r : Rest L stamps T ss xs a m) (q : Rest L stamps T us ys b n)
-      → Later m → InStep L (r .world) (q .world) (r .phase) (q .phase) → Premise T xs ys → Agree T a b ss us
+      (r : Rest S T ss xs a m) (q : Rest S T us ys b n)
+      → Later m → InStep S (r .world) (q .world) (r .phase) (q .phase) → Premise T xs ys → Agree T a b ss us
   rests-agree m n r q rec s e =
       agree-at T (r .sights) (q .sights) (r .ends) (q .ends)
       (rec (r .world) (q .world) (r .phase) (q .phase) (r .moves) (q .moves) (r .chain) (q .chain) (r .good) (q .good) s
@@ -194,40 +194,40 @@ module _ (L : Layout) (fit : accepted L ≡ true) (stamps : List ℕ) (T : ℕ) 
 
   module _ (t : Time) (k : ℕ) (g : Bool) (base : List ℕ) where
     -- two worlds out of the module
-    meets : (a b : World) → a .machine .registers ≡ b .machine .registers → a .machine .time ≡ b .machine .time
-        → isHeld (a .machine .visit) ≡ isHeld (b .machine .visit) → a .machine .halted ≡ false → b .machine .halted ≡ false
-        → SameOutside L base (a .memory) → SameOutside L base (b .memory) → SameView L a b
+    meets : (a b : World) → a .state .registers ≡ b .state .registers → a .state .time ≡ b .state .time
+        → isHeld (a .state .context) ≡ isHeld (b .state .context) → a .state .halted ≡ false → b .state .halted ≡ false
+        → SameOutside S base (a .memory) → SameOutside S base (b .memory) → SameView S a b
     meets a b rs tm hd ra rb ma mb =
-        record { registers = rs; time = tm; held = hd; halted = ra ∙ sym rb; memory = same-trans L (same-sym L ma) mb }
+        record { registers = rs; time = tm; held = hd; halted = ra ∙ sym rb; memory = same-trans S (same-sym S ma) mb }
 
     served-least : {ss : List Sighting} {xs : List Visit} {a : World} {m : ℕ} (n start stamp : ℕ) (s : Step)
-        (r : Rest L stamps T ss xs a m)
-        → BrokenInto L stamps t base n stamp s → r .world ≡ worldAfter s → r .phase ≡ visiting start (k + n)
+        (r : Rest S T ss xs a m)
+        → BrokenInto S t base n stamp s → r .world ≡ worldAfter s → r .phase ≡ visiting start (k + n)
         → Least (k + n) (fateAt xs 0)
     served-least n start stamp s r x e f =
-        let h : isHeld (r .world .machine .visit) ≡ true =
-        ap (λ (w : World). isHeld (w .machine .visit)) e ∙ ap isHeld (x .visit) in
+        let h : isHeld (r .world .state .context) ≡ true =
+        ap (λ (w : World). isHeld (w .state .context)) e ∙ ap isHeld (x .context) in
         subst (λ (z : List Visit). Least (k + n) (fateAt z 0)) (sym (r .visited))
-        (least L stamps fit (r .phase) start (k + n) (r .chain) (r .good) (phase-held L (r .world .machine) (r .phase) h ∙ f))
+        (least S fit (r .phase) start (k + n) (r .chain) (r .good) (phase-held S (r .world .state) (r .phase) h ∙ f))
 
-    service-clock : (s : ℕ) → t .clock < s → pass stamps 6 (emptied (pass stamps (s + 6 - t .clock) t)) .clock ≡ s + 12
+    service-clock : (s : ℕ) → t .clock < s → pass S 6 (emptied (pass S (s + 6 - t .clock) t)) .clock ≡ s + 12
     unfolding pass emptied
     service-clock s h = omega arith
 
     served-silent : {ss : List Sighting} {xs : List Visit} {a : World} {m : ℕ} (n l stamp : ℕ) (s : Step)
-        (r : Rest L stamps T ss xs a m)
-        → T < t .clock + l + 4 → pass stamps l t .slot ≡ Never → BrokenInto L stamps t base n stamp s → r .world ≡ worldAfter s
+        (r : Rest S T ss xs a m)
+        → T < t .clock + l + 4 → pass S l t .slot ≡ Never → BrokenInto S t base n stamp s → r .world ≡ worldAfter s
         → ss ≡ []
     served-silent n l stamp s r h e x w =
-        let a = slot-later stamps t l n stamp e (x .slot) in
+        let a = slot-later S t l n stamp e (x .slot) in
         let b = service-clock stamp (x .after) in
         let d = ap (λ (z : Time). z .clock) (x .time) in
-        let c = ap (λ (z : World). z .machine .time .clock) w in
-        r .sights ∙ silent L stamps fit T (r .chain) (r .good .steady) (omega arith)
+        let c = ap (λ (z : World). z .state .time .clock) w in
+        r .sights ∙ silent S fit T (r .chain) (r .good .steady) (omega arith)
 
     late-served : {ss us : List Sighting} {xs : List Visit} {a b : World} {m : ℕ} (n l stamp : ℕ) (s : Step)
-        (r : Rest L stamps T us xs b m)
-        → T < t .clock + l + 4 → Unasked L stamps T t k g base l → ss ≡ [] → g ≡ true → BrokenInto L stamps t base n stamp s
+        (r : Rest S T us xs b m)
+        → T < t .clock + l + 4 → Unasked S T t k g base l → ss ≡ [] → g ≡ true → BrokenInto S t base n stamp s
         → r .world ≡ worldAfter s → Agree T a b ss us
     late-served n l stamp s r h u z on x w = none-seen T z (served-silent n l stamp s r h (u on) x w)
 
@@ -243,75 +243,75 @@ module _ (L : Layout) (fit : accepted L ≡ true) (stamps : List ℕ) (T : ℕ) 
       first-too h e = second-alike T xs ys premise _ _ _ _ h e
 
       -- both leave
-      both-depart : (l l′ start start′ : ℕ) (r : Rest L stamps T ss xs a m) (r′ : Rest L stamps T us ys b n)
-          → (k + l ≡ k + l′) × (leaving ≡ leaving) × (r .world .machine .registers ≡ r′ .world .machine .registers)
-          → r .world .machine .time ≡ pass stamps l t → r′ .world .machine .time ≡ pass stamps l′ t
-          → r .world .machine .visit ≡ Free → r′ .world .machine .visit ≡ Free
-          → outside L (pc (r .world .machine .registers)) ≡ true
+      both-depart : (l l′ start start′ : ℕ) (r : Rest S T ss xs a m) (r′ : Rest S T us ys b n)
+          → (k + l ≡ k + l′) × (leaving ≡ leaving) × (r .world .state .registers ≡ r′ .world .state .registers)
+          → r .world .state .time ≡ pass S l t → r′ .world .state .time ≡ pass S l′ t
+          → r .world .state .context ≡ Unheld → r′ .world .state .context ≡ Unheld
+          → outside (S .layout) (pc (r .world .state .registers)) ≡ true
           → r .phase ≡ visiting start (k + l) → r′ .phase ≡ visiting start′ (k + l′)
-          → SameOutside L base (r .world .memory) → SameOutside L base (r′ .world .memory) → Agree T a b ss us
+          → SameOutside S base (r .world .memory) → SameOutside S base (r′ .world .memory) → Agree T a b ss us
       both-depart l l′ start start′ r r′ q tm tm′ hd hd′ o ph ph′ mm mm′ =
           let e : l ≡ l′ = let q0 = q .0 in omega arith in
           rests-agree m n r r′ rec
           (record {
-            view = meets _ _ (q .2) (tm ∙ ap (λ (z : ℕ). pass stamps z t) e ∙ sym tm′) (ap isHeld (hd ∙ sym hd′))
+            view = meets _ _ (q .2) (tm ∙ ap (λ (z : ℕ). pass S z t) e ∙ sym tm′) (ap isHeld (hd ∙ sym hd′))
                 (r .running) (r′ .running) mm mm′;
-            paired = leavings hd hd′ o start (k + l) start′ (k + l′) ph ph′;
+            paired = bothLeaving hd hd′ o start (k + l) start′ (k + l′) ph ph′;
           })
           premise
 
       -- both reset
       both-fall : (l l′ : ℕ) (x x′ : Visit) (zs zs′ : List Visit) → xs ≡ x ∷ zs → ys ≡ x′ ∷ zs′
-          → (r : Rest L stamps T ss zs a m) (r′ : Rest L stamps T us zs′ b n)
-          → (k + l + 4 ≡ k + l′ + 4) × (ownReset ≡ ownReset) × (r .world .machine .registers ≡ r′ .world .machine .registers)
-          → r .world .machine .time ≡ emptied (pass stamps 4 (pass stamps l t))
-          → r′ .world .machine .time ≡ emptied (pass stamps 4 (pass stamps l′ t))
-          → r .world .machine .visit ≡ Free → r′ .world .machine .visit ≡ Free → r .phase ≡ away → r′ .phase ≡ away
-          → SameOutside L base (r .world .memory) → SameOutside L base (r′ .world .memory) → Agree T a b ss us
+          → (r : Rest S T ss zs a m) (r′ : Rest S T us zs′ b n)
+          → (k + l + 4 ≡ k + l′ + 4) × (ownReset ≡ ownReset) × (r .world .state .registers ≡ r′ .world .state .registers)
+          → r .world .state .time ≡ emptied (pass S 4 (pass S l t))
+          → r′ .world .state .time ≡ emptied (pass S 4 (pass S l′ t))
+          → r .world .state .context ≡ Unheld → r′ .world .state .context ≡ Unheld → r .phase ≡ away → r′ .phase ≡ away
+          → SameOutside S base (r .world .memory) → SameOutside S base (r′ .world .memory) → Agree T a b ss us
       both-fall l l′ x x′ zs zs′ ex ey r r′ q tm tm′ hd hd′ ph ph′ mm mm′ =
           let e : l ≡ l′ = let q0 = q .0 in omega arith in
           rests-agree m n r r′ rec
           (record {
-            view = meets _ _ (q .2) (tm ∙ ap (λ (z : ℕ). emptied (pass stamps 4 (pass stamps z t))) e ∙ sym tm′)
+            view = meets _ _ (q .2) (tm ∙ ap (λ (z : ℕ). emptied (pass S 4 (pass S z t))) e ∙ sym tm′)
                 (ap isHeld (hd ∙ sym hd′)) (r .running) (r′ .running) mm mm′;
-            paired = aways hd hd′ ph ph′;
+            paired = bothAway hd hd′ ph ph′;
           })
           (premise-tail T x x′ ex ey premise)
 
       -- both are broken into, by one stamp
-      both-served : (l l′ start start′ u u′ : ℕ) (s s′ : Step) (r : Rest L stamps T ss xs a m) (r′ : Rest L stamps T us ys b n)
-          → BrokenInto L stamps t base l u s → BrokenInto L stamps t base l′ u′ s′ → r .world ≡ worldAfter s
+      both-served : (l l′ start start′ u u′ : ℕ) (s s′ : Step) (r : Rest S T ss xs a m) (r′ : Rest S T us ys b n)
+          → BrokenInto S t base l u s → BrokenInto S t base l′ u′ s′ → r .world ≡ worldAfter s
           → r′ .world ≡ worldAfter s′
           → r .phase ≡ visiting start (k + l) → r′ .phase ≡ visiting start′ (k + l′) → Agree T a b ss us
       both-served l l′ start start′ u u′ s s′ r r′ x x′ w w′ ph ph′ =
-          let e : u ≡ u′ = slot-once stamps t l l′ u u′ (x .slot) (x′ .slot) in
+          let e : u ≡ u′ = slot-once S t l l′ u u′ (x .slot) (x′ .slot) in
           let after = x .after in
           let aged = x .aged in
           let aged′ = x′ .aged in
           let i : k + l ≡ k + (u - t .clock) + x .age = omega arith in
           let j : k + l′ ≡ k + (u - t .clock) + x′ .age = omega arith in
           rests-agree m n r r′ rec
-          (subst₂ (λ (c d : World). InStep L c d (r .phase) (r′ .phase)) (sym w) (sym w′)
+          (subst₂ (λ (c d : World). InStep S c d (r .phase) (r′ .phase)) (sym w) (sym w′)
           (record {
             view = meets (worldAfter s) (worldAfter s′) (x .registers ∙ sym (x′ .registers))
-                (x .time ∙ ap (λ (z : ℕ). pass stamps 6 (emptied (pass stamps (z + 6 - t .clock) t))) e ∙ sym (x′ .time))
-                (ap isHeld (x .visit) ∙ sym (ap isHeld (x′ .visit))) (x .running) (x′ .running) (x .memory) (x′ .memory);
-            paired = helds (x .previous) (x .age) (x′ .previous) (x′ .age) start start′ (k + (u - t .clock)) (x .visit) (x′ .visit)
+                (x .time ∙ ap (λ (z : ℕ). pass S 6 (emptied (pass S (z + 6 - t .clock) t))) e ∙ sym (x′ .time))
+                (ap isHeld (x .context) ∙ sym (ap isHeld (x′ .context))) (x .running) (x′ .running) (x .memory) (x′ .memory);
+            paired = bothHeld (x .previous) (x .age) (x′ .previous) (x′ .age) start start′ (k + (u - t .clock)) (x .context) (x′ .context)
                 (ph ∙ ap (visiting start) i) (ph′ ∙ ap (visiting start′) j);
           }))
           premise
 
-      pub meet : Emerges L stamps T t k g base ss xs a m → Emerges L stamps T t k g base us ys b n → Agree T a b ss us
+      pub meet : Emerges S T t k g base ss xs a m → Emerges S T t k g base us ys b n → Agree T a b ss us
       meet (short e c) (short e′ c′) = stopped-short T e c
       meet (short e c) (late l w f z y) = stopped-short T e c
       meet (short e c) (departed l st r w f tm hd o ph mm fa) = stopped-short T e c
-      meet (short e c) (ownFall l x zs q r w f tm hd ph mm fa) = stopped-short T e c
+      meet (short e c) (selfReset l x zs q r w f tm hd ph mm fa) = stopped-short T e c
       meet (short e c) (served l st u s r on x v ph) = stopped-short T e c
       meet (late l w f z y) (short e c) = swapped T (stopped-short T e c)
       meet (late l w f z y) (late l′ w′ f′ z′ y′) = none-seen T z z′
       meet (late l w f z y) (departed l′ st r w′ f′ tm hd o ph mm fa) =
           absurd (not-beyond T (t .clock) k (k + l′) leaving _ (fateAt xs 0) y (first-too w′ fa) (omega arith))
-      meet (late l w f z y) (ownFall l′ x zs q r w′ f′ tm hd ph mm fa) =
+      meet (late l w f z y) (selfReset l′ x zs q r w′ f′ tm hd ph mm fa) =
           absurd
           (not-beyond T (t .clock) k (k + l′ + 4) ownReset _ (fateAt xs 0) y
           (first-too w′ (head-fate ys x zs _ q fa)) (omega arith))
@@ -322,36 +322,36 @@ module _ (L : Layout) (fit : accepted L ≡ true) (stamps : List ℕ) (T : ℕ) 
       meet (departed l st r w f tm hd o ph mm fa) (departed l′ st′ r′ w′ f′ tm′ hd′ o′ ph′ mm′ fa′) =
           both-depart l l′ st st′ r r′
           (both-ends _ _ _ _ _ _ _ (fateAt ys 0) (second-too w fa) fa′) tm tm′ hd hd′ o ph ph′ mm mm′
-      meet (departed l st r w f tm hd o ph mm fa) (ownFall l′ x zs q r′ w′ f′ tm′ hd′ ph′ mm′ fa′) =
+      meet (departed l st r w f tm hd o ph mm fa) (selfReset l′ x zs q r′ w′ f′ tm′ hd′ ph′ mm′ fa′) =
           absurd (not-both _ _ _ _ _ (fateAt ys 0) (second-too w fa) (head-fate ys x zs _ q fa′))
       meet (departed l st r w f tm hd o ph mm fa) (served l′ st′ u s r′ on x v ph′) =
           absurd
           (not-before k l′ l u (x .age) (t .clock) (k + l) leaving _ (fateAt ys 0) (omega arith) (served-least l′ st′ u s r′ x v ph′)
-          (second-too w fa) (x .aged) (slot-later stamps t l l′ u (f on) (x .slot)))
-      meet (ownFall l x zs q r w f tm hd ph mm fa) (short e c) = swapped T (stopped-short T e c)
-      meet (ownFall l x zs q r w f tm hd ph mm fa) (late l′ w′ f′ z y) =
+          (second-too w fa) (x .aged) (slot-later S t l l′ u (f on) (x .slot)))
+      meet (selfReset l x zs q r w f tm hd ph mm fa) (short e c) = swapped T (stopped-short T e c)
+      meet (selfReset l x zs q r w f tm hd ph mm fa) (late l′ w′ f′ z y) =
           absurd
           (not-beyond T (t .clock) k (k + l + 4) ownReset _ (fateAt ys 0) y
           (second-too w (head-fate xs x zs _ q fa)) (omega arith))
-      meet (ownFall l x zs q r w f tm hd ph mm fa) (departed l′ st r′ w′ f′ tm′ hd′ o ph′ mm′ fa′) =
+      meet (selfReset l x zs q r w f tm hd ph mm fa) (departed l′ st r′ w′ f′ tm′ hd′ o ph′ mm′ fa′) =
           absurd (not-both _ _ _ _ _ (fateAt xs 0) (first-too w′ fa′) (head-fate xs x zs _ q fa))
-      meet (ownFall l x zs q r w f tm hd ph mm fa) (ownFall l′ x′ zs′ q′ r′ w′ f′ tm′ hd′ ph′ mm′ fa′) =
+      meet (selfReset l x zs q r w f tm hd ph mm fa) (selfReset l′ x′ zs′ q′ r′ w′ f′ tm′ hd′ ph′ mm′ fa′) =
           both-fall l l′ x x′ zs zs′ q q′ r r′
           (both-ends _ _ _ _ _ _ _ (fateAt ys 0) (second-too w (head-fate xs x zs _ q fa)) (head-fate ys x′ zs′ _ q′ fa′))
           tm tm′ hd hd′ ph ph′ mm mm′
-      meet (ownFall l x zs q r w f tm hd ph mm fa) (served l′ st u s r′ on x′ v ph′) =
+      meet (selfReset l x zs q r w f tm hd ph mm fa) (served l′ st u s r′ on x′ v ph′) =
           absurd
           (not-before k l′ l u (x′ .age) (t .clock) (k + l + 4) ownReset _ (fateAt ys 0) (omega arith) (served-least l′ st u s r′ x′ v ph′)
-          (second-too w (head-fate xs x zs _ q fa)) (x′ .aged) (slot-later stamps t l l′ u (f on) (x′ .slot)))
+          (second-too w (head-fate xs x zs _ q fa)) (x′ .aged) (slot-later S t l l′ u (f on) (x′ .slot)))
       meet (served l st u s r on x v ph) (short e c) = swapped T (stopped-short T e c)
       meet (served l st u s r on x v ph) (late l′ w f z y) = swapped T (late-served l l′ u s r w f z on x v)
       meet (served l st u s r on x v ph) (departed l′ st′ r′ w f tm hd o ph′ mm fa) =
           absurd
           (not-before k l l′ u (x .age) (t .clock) (k + l′) leaving _ (fateAt xs 0) (omega arith) (served-least l st u s r x v ph)
-          (first-too w fa) (x .aged) (slot-later stamps t l′ l u (f on) (x .slot)))
-      meet (served l st u s r on x v ph) (ownFall l′ x′ zs q r′ w f tm hd ph′ mm fa) =
+          (first-too w fa) (x .aged) (slot-later S t l′ l u (f on) (x .slot)))
+      meet (served l st u s r on x v ph) (selfReset l′ x′ zs q r′ w f tm hd ph′ mm fa) =
           absurd
           (not-before k l l′ u (x .age) (t .clock) (k + l′ + 4) ownReset _ (fateAt xs 0) (omega arith) (served-least l st u s r x v ph)
-          (first-too w (head-fate ys x′ zs _ q fa)) (x .aged) (slot-later stamps t l′ l u (f on) (x .slot)))
+          (first-too w (head-fate ys x′ zs _ q fa)) (x .aged) (slot-later S t l′ l u (f on) (x .slot)))
       meet (served l st u s r on x v ph) (served l′ st′ u′ s′ r′ on′ x′ v′ ph′) =
           both-served l l′ st st′ u u′ s s′ r r′ x x′ v v′ ph ph′

@@ -4,8 +4,8 @@ use mathlib.Core.Bool.{Bool}
 use mathlib.Core.List.{List, [], _∷_}
 use lib.Dec.{leb}
 use Rattle.base.specs.Test.{if_then_else_, all}
-use Rattle.layout.specs.declared.sections.Layout.{Layout}
 use Rattle.layout.specs.Sections.{outside}
+use Rattle.definition.specs.Setting.{Setting}
 use Rattle.definition.specs.declared.state.Stamp.{Stamp}
 use Rattle.definition.specs.declared.state.Time.{Time}
 use Rattle.definition.specs.declared.state.State.{State}
@@ -26,18 +26,18 @@ pub record View : Type 0 where
   pub alarm : Stamp
 
 -- the outside bytes; 0 stands for the module's
-unfoldable pub outsideBytes : Layout → List ℕ → ℕ → ℕ
-outsideBytes L mem a = if outside L a then byteAt mem a else 0
+unfoldable pub outsideBytes : Setting → List ℕ → ℕ → ℕ
+outsideBytes S mem a = if outside (S .layout) a then byteAt mem a else 0
 
 -- the view of a world
-unfoldable pub viewOf : Layout → World → View
-viewOf L w =
+unfoldable pub viewOf : Setting → World → View
+viewOf S w =
     record {
-      clock = w .machine .time .clock;
-      registers = w .machine .registers;
-      bytes = outsideBytes L (w .memory);
-      slot = w .machine .time .slot;
-      alarm = w .machine .time .alarm;
+      clock = w .state .time .clock;
+      registers = w .state .registers;
+      bytes = outsideBytes S (w .memory);
+      slot = w .state .time .slot;
+      alarm = w .state .time .alarm;
     }
 
 -- one sighting
@@ -58,13 +58,13 @@ sightingOf before after (Reset c) = seen before after (Reset c)
 sightingOf before after Halted = seen before after Halted
 
 -- a step that begins outside
-abbrev pub beginsOutside : Layout → Move → Bool
-beginsOutside L v = outside L (pc (v .before .machine .registers))
+abbrev pub beginsOutside : Setting → Move → Bool
+beginsOutside S v = outside (S .layout) (pc (v .before .state .registers))
 
 -- one sighting for each step that begins outside, at the clock value T or below
-unfoldable pub sightings : Layout → ℕ → List Move → List Sighting
-sightings L T [] = []
-sightings L T (v ∷ vs) =
-    if all (beginsOutside L v ∷ leb (v .before .machine .time .clock) T ∷ []) then
-    sightingOf (viewOf L (v .before)) (viewOf L (worldAfter (v .after))) (v .after .outcome) ∷ sightings L T vs
-    else sightings L T vs
+unfoldable pub sightings : Setting → ℕ → List Move → List Sighting
+sightings S T [] = []
+sightings S T (v ∷ vs) =
+    if all (beginsOutside S v ∷ leb (v .before .state .time .clock) T ∷ []) then
+    sightingOf (viewOf S (v .before)) (viewOf S (worldAfter (v .after))) (v .after .outcome) ∷ sightings S T vs
+    else sightings S T vs

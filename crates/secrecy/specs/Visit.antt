@@ -5,8 +5,8 @@ use mathlib.Core.List.{List, [], _∷_, _++_}
 use lib.Dec.{leb, eqb}
 use Rattle.base.specs.Test.{if_then_else_, all}
 use Rattle.isa.specs.Cycles.{cyclesOf}
-use Rattle.layout.specs.declared.sections.Layout.{Layout}
 use Rattle.layout.specs.Sections.{entry, inside}
+use Rattle.definition.specs.Setting.{Setting}
 use Rattle.definition.specs.declared.state.Time.{Time}
 use Rattle.definition.specs.declared.state.State.{State}
 use Rattle.definition.specs.Registers.{pc}
@@ -14,8 +14,8 @@ use Rattle.definition.specs.Outcome.{isReset}
 use Rattle.definition.specs.State.{World, isHeld}
 use Rattle.definition.specs.declared.judge.Judged.{Judged}
 use Rattle.definition.specs.declared.judge.Judged.the-variants.{Faulty, Acts}
-use Rattle.definition.specs.Judge.{judge}
 use Rattle.definition.specs.Interrupt.{Step}
+use Rattle.definition.specs.Step.{judged}
 use Rattle.definition.specs.Run.{Move}
 use Rattle.secrecy.specs.Sighting.{beginsOutside}
 
@@ -51,21 +51,22 @@ judgedCycles (Faulty c) = 4
 judgedCycles (Acts i) = cyclesOf i
 
 -- the own cycles of a step
-abbrev pub ownCycles : Layout → Move → ℕ
-ownCycles L v =
-    let m = v .before .machine in
-    judgedCycles (judge L (isHeld (m .visit)) (m .registers) (v .before .memory) (m .previous))
+abbrev pub ownCycles : Setting → Move → ℕ
+ownCycles S v = judgedCycles (judged S (v .before))
 
--- with none held, a step at the entry whose previous address isn't inside starts a visit
-abbrev pub entered : Layout → Move → Phase → Phase
-entered L v p =
-    let m = v .before .machine in
-    if all (eqb (pc (m .registers)) (entry L) ∷ not (inside L (m .previous)) ∷ []) then visiting (m .time .clock) 0 else p
+-- the step of a machine starts a visit: none held, at the entry, the previous address not inside
+abbrev pub startsVisit : Setting → State → Bool
+startsVisit S m =
+    all (not (isHeld (m .context)) ∷ eqb (pc (m .registers)) (entry (S .layout)) ∷ not (inside (S .layout) (m .previous)) ∷ [])
+
+-- the phase in which a step is made: one that starts a visit is the first of it
+abbrev pub entered : Setting → Move → Phase → Phase
+entered S v p = if startsVisit S (v .before .state) then visiting (v .before .state .time .clock) 0 else p
 
 -- a visit that has not ended: dropped by a service routine's reset, halted, or still going on
-abbrev pub left : Phase → List Visit
-left away = []
-left (visiting start own) = record { start = start; fate = unended } ∷ []
+abbrev pub unendedVisit : Phase → List Visit
+unendedVisit away = []
+unendedVisit (visiting start own) = record { start = start; fate = unended } ∷ []
 
 -- a visit that ends, with n own cycles more
 abbrev pub closed : Phase → ℕ → ℕ → Way → List ℕ → List Visit
@@ -79,24 +80,24 @@ longer away n = away
 longer (visiting start own) n = visiting start (own + n)
 
 -- the visits of a run from a phase on, by what each step's own cycles are
-unfoldable pub visitsBy : (Layout → Move → ℕ) → Layout → Phase → List Move → List Visit
-visitsBy own L p [] = left p
-visitsBy own L p (v ∷ vs) =
+unfoldable pub visitsBy : (Setting → Move → ℕ) → Setting → Phase → List Move → List Visit
+visitsBy own S p [] = unendedVisit p
+visitsBy own S p (v ∷ vs) =
     -- a visit is held: a service routine's step, whose reset drops it
-    if isHeld (v .before .machine .visit) then
-    if isReset (v .after .outcome) then left p ++ visitsBy own L away vs else visitsBy own L p vs
+    if isHeld (v .before .state .context) then
+    if isReset (v .after .outcome) then unendedVisit p ++ visitsBy own S away vs else visitsBy own S p vs
     -- a step begins outside with none held: a visit has ended by leaving
-    else if beginsOutside L v then
-    closed p (v .before .machine .time .clock) 0 leaving (v .before .machine .registers) ++ visitsBy own L away vs
+    else if beginsOutside S v then
+    closed p (v .before .state .time .clock) 0 leaving (v .before .state .registers) ++ visitsBy own S away vs
     -- pc in code or data, none held: an own reset, or an instruction inside
     else if isReset (v .after .outcome) then
-    closed (entered L v p) (v .after .machine .time .clock) (own L v) ownReset (v .after .machine .registers)
-    ++ visitsBy own L away vs
-    else visitsBy own L (longer (entered L v p) (own L v)) vs
+    closed (entered S v p) (v .after .state .time .clock) (own S v) ownReset (v .after .state .registers)
+    ++ visitsBy own S away vs
+    else visitsBy own S (longer (entered S v p) (own S v)) vs
 
 -- the visits of a run from a phase on
-abbrev pub visits : Layout → Phase → List Move → List Visit
-visits L p vs = visitsBy ownCycles L p vs
+abbrev pub visits : Setting → Phase → List Move → List Visit
+visits S p vs = visitsBy ownCycles S p vs
 
 -- visit number k; a run that has none has not ended it
 abbrev pub fateAt : List Visit → ℕ → Fate

@@ -6,14 +6,14 @@ use Prim.Native.Nat.{ℕ}
 use lib.ListN.{length}
 use Rattle.layout.specs.Sections.{outside}
 use Rattle.definition.specs.declared.answer.Outcome.the-variants.{Ran, Back}
-use Rattle.definition.specs.declared.answer.StartAnswer.the-variants.{Made}
+use Rattle.definition.specs.declared.answer.StartAnswer.the-variants.{Done}
 use Rattle.definition.specs.Memory.{byteAt}
 use Rattle.definition.specs.Run.{Move}
 use Rattle.secrecy.specs.Sighting.{sightings}
 use Rattle.secrecy.specs.Visit.{leaving, VisitEnd, ended, away, Visit, visits}
-use Rattle.secrecy.specs.Secrecy.{Alike, Premise}
+use Rattle.secrecy.specs.Secrecy.{EqualEnds, Premise}
 use Rattle.witness.specs.Lines.{StepLine, line, linesOf}
-use Rattle.witness.specs.Example.{exampleLayout, outsideLines, moduleA, moduleB, memoryA, memoryB, exampleRun, linesBefore, linesLater, NotVacuous}
+use Rattle.witness.specs.Example.{exampleLayout, exampleSetting, outsideLines, moduleA, moduleB, memoryA, memoryB, exampleRun, linesBefore, linesLater, NotVacuous}
 use Rattle.witness.proofs.Computes.{computes}
 use Rattle.witness.proofs.Loaded.{starts, hidden, same-outside}
 use Rattle.witness.proofs.Pairs.{one-visit}
@@ -40,7 +40,7 @@ record Shown : Type 0 where
 
 shown : List Move → Shown
 shown vs =
-    record { lines = linesOf vs; made = visits exampleLayout away vs; seen = length (sightings exampleLayout 100 vs) }
+    record { lines = linesOf vs; made = visits exampleSetting away vs; seen = length (sightings exampleSetting 100 vs) }
 
 shown-a : shown (exampleRun memoryA)
     ≡ record { lines = linesBefore ++ (line Back 24 0x0042 8 0 ∷ line Ran 25 0x0044 8 0 ∷ linesLater); made = theVisit ∷ []; seen = 11 }
@@ -65,7 +65,7 @@ not-vacuous =
       runA = ap (λ (s : Shown). s .lines) shown-a;
       runB = ap (λ (s : Shown). s .lines) shown-b;
       premise = subst₂ (Premise 100) (sym (ap (λ (s : Shown). s .made) shown-a)) (sym (ap (λ (s : Shown). s .made) shown-b))
-          (one-visit Alike 100 4 4 theEnd theEnd (refl, refl, refl));
+          (one-visit EqualEnds 100 4 4 theEnd theEnd (refl, refl, refl));
       seenA = ap (λ (s : Shown). s .seen) shown-a;
       seenB = ap (λ (s : Shown). s .seen) shown-b;
     }

@@ -9,11 +9,12 @@ use Rattle.base.specs.Test.{if_then_else_, any}
 use Rattle.base.proofs.Tests.{if-true}
 use Rattle.layout.specs.declared.sections.Layout.{Layout}
 use Rattle.layout.specs.Rules.{accepted}
+use Rattle.definition.specs.Setting.{Setting}
 use Rattle.definition.specs.Run.{Move}
 use Rattle.secrecy.specs.Calls.{Call, running, runOf}
 use Rattle.secrecy.specs.Sighting.{View, Sighting, seen, resumes, sightings}
 use Rattle.secrecy.specs.Visit.{VisitEnd, ended, away, Visit, ownCycles, visitsBy}
-use Rattle.secrecy.specs.Secrecy.{startWorld, Alike, EndsRelated, AgreeAsFar, Agree, SecrecyUnder, Secrecy}
+use Rattle.secrecy.specs.Secrecy.{startWorld, EqualEnds, EndsRelated, AgreeAsFar, Agree, SecrecyUnder, Secrecy}
 use Rattle.witness.specs.Lines.{MLine, memoryOf}
 use Rattle.witness.specs.Needed.{SecrecyBy}
 use Rattle.witness.proofs.Computes.{computes}
@@ -26,8 +27,7 @@ pub record Module : Type 0 where
 
 -- two machines: layout and timetable, the words outside, the two modules, a clock value
 pub record Pair : Type 0 where
-  pub layout : Layout
-  pub stamps : List ℕ
+  pub setting : Setting
   pub outer : List MLine
   pub moduleA : Module
   pub moduleB : Module
@@ -43,7 +43,7 @@ memoryWith p i = memoryOf (p .outer) (i .words)
 
 -- its run
 unfoldable pub runWith : Pair → Module → List Move
-runWith p i = runOf (p .layout) (p .stamps) (startWorld (memoryWith p i)) (running (i .steps) ∷ [])
+runWith p i = runOf (p .setting) (startWorld (memoryWith p i)) (running (i .steps) ∷ [])
 
 -- what was before the step of a sighting
 abbrev viewBefore : Sighting → View
@@ -61,10 +61,10 @@ pub record Shown : Type 0 where
   pub seen : List ℕ
 
 -- what the machine with one of the modules shows
-unfoldable pub shown : (Layout → Move → ℕ) → (View → ℕ) → Pair → Module → Shown
+unfoldable pub shown : (Setting → Move → ℕ) → (View → ℕ) → Pair → Module → Shown
 shown own number p i =
     let vs = runWith p i in
-    record { visits = visitsBy own (p .layout) away vs; seen = seenBy number (sightings (p .layout) (p .last) vs) }
+    record { visits = visitsBy own (p .setting) away vs; seen = seenBy number (sightings (p .setting) (p .last) vs) }
 
 -- the clock before each step outside
 abbrev pub clockSeen : View → ℕ
@@ -97,13 +97,13 @@ one-visit Related T s u e f r zero h = r
 one-visit Related T s u e f r (suc k) h = absurd (false≢true h)
 
 -- with all that the premise asks it is secrecy itself
-with-all : Secrecy → SecrecyBy ownCycles Alike
+with-all : Secrecy → SecrecyBy ownCycles EqualEnds
 unfolding Secrecy
 with-all s = s
 
 -- the two machines refute secrecy
-pub refuted : (own : Layout → Move → ℕ) (Related : VisitEnd → VisitEnd → Type 0) (number : View → ℕ) (p : Pair) (a b : Shown)
-    → accepted (p .layout) ≡ true → hidden (p .layout) (p .moduleA .words) ≡ true → hidden (p .layout) (p .moduleB .words) ≡ true
+pub refuted : (own : Setting → Move → ℕ) (Related : VisitEnd → VisitEnd → Type 0) (number : View → ℕ) (p : Pair) (a b : Shown)
+    → accepted (p .setting .layout) ≡ true → hidden (p .setting .layout) (p .moduleA .words) ≡ true → hidden (p .setting .layout) (p .moduleB .words) ≡ true
     → shown own number p (p .moduleA) ≡ a → shown own number p (p .moduleB) ≡ b
     → EndsRelated Related (p .last) (a .visits) (b .visits) → equalAsFar (a .seen) (b .seen) ≡ false
     → ¬ SecrecyBy own Related
@@ -111,10 +111,10 @@ unfolding SecrecyUnder shown runWith
 refuted own Related number p a b fit ha hb ea eb r d secrecy =
     true≢false
     (sym (seen-equal number _ _
-    (secrecy (p .layout) (p .stamps) (memoryWith p (p .moduleA)) (memoryWith p (p .moduleB))
+    (secrecy (p .setting) (memoryWith p (p .moduleA)) (memoryWith p (p .moduleB))
     (running (p .moduleA .steps) ∷ []) (running (p .moduleB .steps) ∷ []) (p .last)
     (starts (p .outer) (p .moduleA .words)) (starts (p .outer) (p .moduleB .words))
-    (same-outside (p .layout) fit (p .outer) (p .moduleA .words) (p .moduleB .words) ha hb)
+    (same-outside (p .setting .layout) fit (p .outer) (p .moduleA .words) (p .moduleB .words) ha hb)
     (subst₂ (EndsRelated Related (p .last)) (sym (ap (λ (x : Shown). x .visits) ea)) (sym (ap (λ (x : Shown). x .visits) eb)) r)
     .asFar))
     ∙ subst₂ (λ (x y : List ℕ). equalAsFar x y ≡ false)

@@ -3,7 +3,8 @@ use mathlib.Core.Path.{_≡_, refl}
 use mathlib.Core.List.{List, [], _∷_}
 use Prim.Native.Nat.{ℕ}
 use Rattle.secrecy.specs.Visit.{leaving, VisitEnd, ended, Visit}
-use Rattle.secrecy.specs.Secrecy.{Alike}
+use Rattle.secrecy.specs.Secrecy.{EqualEnds}
+use Rattle.definition.specs.Setting.{settingOf}
 use Rattle.witness.specs.Lines.{MLine, M}
 use Rattle.witness.specs.Needed.{cyclesAndWaits, WaitsNotOwn}
 use Rattle.witness.proofs.Pairs.{Module, Pair, pairLayout, Shown, shown, clockSeen, shown-computes, equalAsFar, one-visit, refuted}
@@ -13,8 +14,7 @@ use Rattle.witness.proofs.Pairs.{Module, Pair, pairLayout, Shown, shown
 unfoldable pair : Pair
 pair =
     record {
-      layout = pairLayout;
-      stamps = 5 ∷ [];
+      setting = settingOf pairLayout (5 ∷ []);
       outer =
           M 0x0000 0x4032 ∷ M 0x0002 0x0008 ∷ M 0x0004 0x4030 ∷ M 0x0006 0x0040 ∷ M 0x0010 0x0001 ∷ M 0x0020 0x1300 ∷ [];
       moduleA = record { words = M 0x0040 0x4303 ∷ M 0x0042 0x4030 ∷ M 0x0044 0x0010 ∷ []; steps = 6 };
@@ -48,5 +48,5 @@ shown-b = refl
 pub waits-not-own : WaitsNotOwn
 unfolding WaitsNotOwn shown-computes pair equalAsFar
 waits-not-own =
-    refuted cyclesAndWaits Alike clockSeen pair (shows 24) (shows 25) refl refl refl shown-a shown-b
-    (one-visit Alike 100 4 4 (endAt 24) (endAt 25) (refl, refl, refl)) refl
+    refuted cyclesAndWaits EqualEnds clockSeen pair (shows 24) (shows 25) refl refl refl shown-a shown-b
+    (one-visit EqualEnds 100 4 4 (endAt 24) (endAt 25) (refl, refl, refl)) refl

@@ -3,16 +3,16 @@ use mathlib.Core.Path.{_≡_, refl}
 use mathlib.Core.List.{List, [], _∷_}
 use Prim.Native.Nat.{ℕ}
 use Rattle.secrecy.specs.Visit.{leaving, VisitEnd, ended, Visit, ownCycles}
+use Rattle.definition.specs.Setting.{settingOf}
 use Rattle.witness.specs.Lines.{MLine, M}
-use Rattle.witness.specs.Needed.{AlikeButOwn, OwnCyclesNeeded}
+use Rattle.witness.specs.Needed.{EqualButOwn, OwnCyclesNeeded}
 use Rattle.witness.proofs.Pairs.{Module, Pair, pairLayout, Shown, shown, clockSeen, shown-computes, equalAsFar, one-visit, refuted}
 
 -- outside: MOV #0040 0 enters the module, HLT at 0010; one module is MOV #0010 0, the other NOP and the same
 unfoldable pair : Pair
 pair =
     record {
-      layout = pairLayout;
-      stamps = [];
+      setting = settingOf pairLayout [];
       outer = M 0x0000 0x4030 ∷ M 0x0002 0x0040 ∷ M 0x0010 0x0001 ∷ [];
       moduleA = record { words = M 0x0040 0x4030 ∷ M 0x0042 0x0010 ∷ []; steps = 3 };
       moduleB = record { words = M 0x0040 0x4303 ∷ M 0x0042 0x4030 ∷ M 0x0044 0x0010 ∷ []; steps = 4 };
@@ -45,5 +45,5 @@ shown-b = refl
 pub own-cycles-needed : OwnCyclesNeeded
 unfolding OwnCyclesNeeded shown-computes pair equalAsFar
 own-cycles-needed =
-    refuted ownCycles AlikeButOwn clockSeen pair (shows 4 2) (shows 5 3) refl refl refl shown-a shown-b
-    (one-visit AlikeButOwn 100 2 2 (endAfter 4 2) (endAfter 5 3) (refl, refl)) refl
+    refuted ownCycles EqualButOwn clockSeen pair (shows 4 2) (shows 5 3) refl refl refl shown-a shown-b
+    (one-visit EqualButOwn 100 2 2 (endAfter 4 2) (endAfter 5 3) (refl, refl)) refl

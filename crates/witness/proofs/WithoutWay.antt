@@ -2,12 +2,13 @@
 use mathlib.Core.Path.{_≡_, refl}
 use mathlib.Core.List.{List, [], _∷_}
 use Prim.Native.Nat.{ℕ}
+use Rattle.definition.specs.Setting.{settingOf}
 use Rattle.definition.specs.declared.state.Stamp.{Stamp}
 use Rattle.definition.specs.declared.state.Stamp.the-variants.{Never, At}
 use Rattle.secrecy.specs.Sighting.{View}
 use Rattle.secrecy.specs.Visit.{Way, leaving, ownReset, VisitEnd, ended, Visit, ownCycles}
 use Rattle.witness.specs.Lines.{MLine, M}
-use Rattle.witness.specs.Needed.{AlikeButWay, WayNeeded}
+use Rattle.witness.specs.Needed.{EqualButWay, WayNeeded}
 use Rattle.witness.proofs.Pairs.{Module, Pair, pairLayout, Shown, shown, shown-computes, equalAsFar, one-visit, refuted}
 
 -- outside: MOV #0040 0 at the reset vector's address 0000, GIE clear; one module is NOP, NOP, JMP &5, the other 0000, which does not
@@ -15,8 +16,7 @@ use Rattle.witness.proofs.Pairs.{Module, Pair, pairLayout, Shown, shown
 unfoldable pair : Pair
 pair =
     record {
-      layout = pairLayout;
-      stamps = 3 ∷ [];
+      setting = settingOf pairLayout (3 ∷ []);
       outer = M 0x0000 0x4030 ∷ M 0x0002 0x0040 ∷ [];
       moduleA = record { words = M 0x0040 0x4303 ∷ M 0x0042 0x4303 ∷ M 0x0044 0x4500 ∷ []; steps = 5 };
       moduleB = record { words = M 0x0040 0x0000 ∷ []; steps = 3 };
@@ -61,5 +61,5 @@ shown-b = refl
 pub way-needed : WayNeeded
 unfolding WayNeeded shown-computes pair equalAsFar
 way-needed =
-    refuted ownCycles AlikeButWay slotSeen pair showsLeft showsReset refl refl refl shown-a shown-b
-    (one-visit AlikeButWay 6 2 2 (endBy leaving) (endBy ownReset) (refl, refl)) refl
+    refuted ownCycles EqualButWay slotSeen pair showsLeft showsReset refl refl refl shown-a shown-b
+    (one-visit EqualButWay 6 2 2 (endBy leaving) (endBy ownReset) (refl, refl)) refl

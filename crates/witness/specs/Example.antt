@@ -5,12 +5,13 @@ use mathlib.Core.Path.{_≡_}
 use mathlib.Core.Bool.{true}
 use mathlib.Core.List.{List, [], _∷_, _++_}
 use lib.ListN.{length}
+use Rattle.definition.specs.Setting.{Setting, settingOf}
 use Rattle.layout.specs.declared.sections.Layout.{Layout}
 use Rattle.layout.specs.Sections.{outside}
 use Rattle.definition.specs.declared.state.Time.{Time}
 use Rattle.definition.specs.declared.state.State.{State}
 use Rattle.definition.specs.declared.answer.Outcome.the-variants.{Ran, Padded, Back, Halted}
-use Rattle.definition.specs.declared.answer.StartAnswer.the-variants.{Made}
+use Rattle.definition.specs.declared.answer.StartAnswer.the-variants.{Done}
 use Rattle.definition.specs.Memory.{byteAt}
 use Rattle.definition.specs.State.{World}
 use Rattle.definition.specs.Interrupt.{Step}
@@ -25,6 +26,10 @@ use Rattle.secrecy.specs.Secrecy.{startWorld, Premise}
 -- code at 0040, data at 0050, the service routine at 0020
 abbrev pub exampleLayout : Layout
 exampleLayout = record { code = record { start = 0x0040; end = 0x004A }; «data» = record { start = 0x0050; end = 0x0054 }; service = 0x0020 }
+
+-- and one request, at stamp 5
+abbrev pub exampleSetting : Setting
+exampleSetting = settingOf exampleLayout (5 ∷ [])
 
 -- outside: GIE is set, the module is entered; later some NOPs and HLT. The service routine: two NOPs and RETI
 abbrev pub outsideLines : List MLine
@@ -55,7 +60,7 @@ memoryB = memoryOf outsideLines moduleB
 
 -- one run of both, with a request at stamp 5
 unfoldable pub exampleRun : List ℕ → List Move
-exampleRun mem = runOf exampleLayout (5 ∷ []) (startWorld mem) (running 40 ∷ [])
+exampleRun mem = runOf exampleSetting (startWorld mem) (running 40 ∷ [])
 
 -- the lines of both runs up to where the module is left, and from there on
 abbrev pub linesBefore : List StepLine
@@ -71,11 +76,11 @@ linesLater =
 -- they differ in the module only, the premise holds of them, they are broken into at different instructions (the one goes back to
 -- 0042 at 24, the other to 0044 at 25), and each has eleven sightings, a resumption among them
 pub record NotVacuous : Type 0 where
-  pub startsA : startCall memoryA .answer ≡ Made
-  pub startsB : startCall memoryB .answer ≡ Made
+  pub startsA : startCall memoryA .answer ≡ Done
+  pub startsB : startCall memoryB .answer ≡ Done
   pub same : (a : ℕ) → outside exampleLayout a ≡ true → byteAt memoryA a ≡ byteAt memoryB a
   pub runA : linesOf (exampleRun memoryA) ≡ linesBefore ++ (line Back 24 0x0042 8 0 ∷ line Ran 25 0x0044 8 0 ∷ linesLater)
   pub runB : linesOf (exampleRun memoryB) ≡ linesBefore ++ (line Back 25 0x0044 8 0 ∷ linesLater)
-  pub premise : Premise 100 (visits exampleLayout away (exampleRun memoryA)) (visits exampleLayout away (exampleRun memoryB))
-  pub seenA : length (sightings exampleLayout 100 (exampleRun memoryA)) ≡ 11
-  pub seenB : length (sightings exampleLayout 100 (exampleRun memoryB)) ≡ 11
+  pub premise : Premise 100 (visits exampleSetting away (exampleRun memoryA)) (visits exampleSetting away (exampleRun memoryB))
+  pub seenA : length (sightings exampleSetting 100 (exampleRun memoryA)) ≡ 11
+  pub seenB : length (sightings exampleSetting 100 (exampleRun memoryB)) ≡ 11

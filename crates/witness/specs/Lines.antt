@@ -2,6 +2,7 @@
 use Prim.Native.Nat.{ℕ}
 use mathlib.Core.List.{List, [], _∷_}
 use lib.ListN.{replicate}
+use Rattle.base.specs.Limits.{memoryBytes}
 use Rattle.definition.specs.declared.state.Time.{Time}
 use Rattle.definition.specs.declared.state.State.{State}
 use Rattle.definition.specs.declared.answer.Outcome.{Outcome}
@@ -27,7 +28,7 @@ loaded mem (l ∷ lines) = loaded (putWord mem (l .address) (l .word)) lines
 
 -- memory with these words outside and these in the module, and else zeros
 unfoldable pub memoryOf : List MLine → List MLine → List ℕ
-memoryOf outer inner = loaded (loaded (replicate 65536 0) outer) inner
+memoryOf outer inner = loaded (loaded (replicate memoryBytes 0) outer) inner
 
 -- a step line: its kind, and the clock, pc, sr and sp after it
 pub record StepLine : Type 0 where
@@ -42,12 +43,12 @@ abbrev pub line : Outcome → ℕ → ℕ → ℕ → ℕ → StepLine
 line k c p s q = record { kind = k; clock = c; pc = p; sr = s; sp = q }
 
 -- the line of a step
-abbrev lineOf : Move → StepLine
-lineOf v =
-    line (v .after .outcome) (v .after .machine .time .clock) (pc (v .after .machine .registers))
-    (sr (v .after .machine .registers)) (sp (v .after .machine .registers))
+abbrev stepLineOf : Move → StepLine
+stepLineOf v =
+    line (v .after .outcome) (v .after .state .time .clock) (pc (v .after .state .registers))
+    (sr (v .after .state .registers)) (sp (v .after .state .registers))
 
 -- the step lines of some moves
 unfoldable pub linesOf : List Move → List StepLine
 linesOf [] = []
-linesOf (v ∷ vs) = lineOf v ∷ linesOf vs
+linesOf (v ∷ vs) = stepLineOf v ∷ linesOf vs

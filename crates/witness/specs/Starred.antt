@@ -2,7 +2,9 @@
 use Prim.Native.Nat.{ℕ}
 use mathlib.Core.List.{List, [], _∷_, _++_}
 use lib.ListN.{replicate}
+use Rattle.base.specs.Limits.{memoryBytes}
 use Rattle.base.specs.Case.{Case, case}
+use Rattle.definition.specs.Setting.{settingOf}
 use Rattle.isa.specs.Starred.{wordCases}
 use Rattle.alu.specs.Starred.{sumCases}
 use Rattle.layout.specs.Starred.{sheetLayout, accessCases}
@@ -14,13 +16,13 @@ use Rattle.witness.specs.Lines.{MLine, M, loaded, StepLine, line, linesO
 -- the memory of document 01's sheet
 unfoldable pub sheet : List ℕ
 sheet =
-    loaded (replicate 65536 0)
+    loaded (replicate memoryBytes 0)
     (M 0xFFFE 0x4400 ∷ M 0x4400 0x4032 ∷ M 0x4402 0x0008 ∷ M 0x4404 0x4030 ∷ M 0x4406 0x8000 ∷ M 0x4500 0x1300
     ∷ M 0x4600 0x0001 ∷ M 0x8000 0x4303 ∷ M 0x8002 0x4035 ∷ M 0x8004 0x4600 ∷ M 0x8006 0x4500 ∷ [])
 
 -- the first n step lines of the sheet with one request at the stamp
 unfoldable pub sheetLines : ℕ → ℕ → List StepLine
-sheetLines stamp n = linesOf (moves sheetLayout (stamp ∷ []) n (world (start sheet) sheet))
+sheetLines stamp n = linesOf (moves (settingOf sheetLayout (stamp ∷ [])) n (world (start sheet) sheet))
 
 -- stamp 5: step 3 is P at clock 17; stamp 7: step 4 is P at 19; stamp 4: step 2 is I at 10, sp FFFC; and the sheet itself, stamp 6
 abbrev pub stepCases : List {1} Case

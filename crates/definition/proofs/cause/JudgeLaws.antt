@@ -5,7 +5,7 @@ use mathlib.Core.List.{List, [], _∷_}
 use Prim.Native.Nat.{ℕ}
 use borrow.Author.Tests.{not-false}
 use Rattle.base.specs.Test.{if_then_else_, all}
-use Rattle.base.specs.Word.{even, sum16}
+use Rattle.base.specs.Word.{dropBit0, sum16}
 use Rattle.base.proofs.Tests.{cases, each, if-true, if-false, choose}
 use Rattle.isa.specs.declared.instruction.Instruction.{Instruction}
 use Rattle.isa.specs.declared.table.Row.{Row}
@@ -45,10 +45,10 @@ second-fails false u e = refl
 
 -- words that may all be touched, one by one
 pub each-may : (L : Layout) (from : ℕ) (right : Right) (a : ℕ) (addresses : List ℕ) → allMay L from right (a ∷ addresses) ≡ true
-    → (may L from right (even a) ≡ true) × (allMay L from right addresses ≡ true)
+    → (may L from right (dropBit0 a) ≡ true) × (allMay L from right addresses ≡ true)
 unfolding allMay
 each-may L from right a addresses e =
-    cases (may L from right (even a)) (λ h. (h, sym (if-true _ _ _ h) ∙ e)) (λ h. absurd (true≢false (sym e ∙ if-false _ _ _ h)))
+    cases (may L from right (dropBit0 a)) (λ h. (h, sym (if-true _ _ _ h) ∙ e)) (λ h. absurd (true≢false (sym e ∙ if-false _ _ _ h)))
 
 -- cause 4 as one test, and the second word, or 0 where there is none
 one-test : (t s : Bool) (f : ℕ → Judged) (j : Judged) (w : ℕ)
@@ -81,7 +81,7 @@ Touches L held rs i =
     resuming held i ≡ false → (allMay L (pc rs) read (reads rs i) ≡ true) × (allMay L (pc rs) write (writes rs i) ≡ true)
 
 -- what an instruction has passed
-record Passed (L : Layout) (held : Bool) (rs : List ℕ) (previous : ℕ) (i : Instruction) : Type 0 where
+record CausesPassed (L : Layout) (held : Bool) (rs : List ℕ) (previous : ℕ) (i : Instruction) : Type 0 where
   executable : may L previous execute (pc rs) ≡ true
   unheld : inside L (pc rs) ≡ true → held ≡ false
   unprivileged : inside L (pc rs) ≡ true → privileged i ≡ false
@@ -91,14 +91,14 @@ module _ (L : Layout) (held : Bool) (rs mem : List ℕ) (previous : ℕ) where
   -- whatever acts has passed
   unfoldable Lawful : Judged → Type 0
   Lawful (Faulty c) = Unit {0}
-  Lawful (Acts i) = Passed L held rs previous i
+  Lawful (Acts i) = CausesPassed L held rs previous i
 
   module _ (x : may L previous execute (pc rs) ≡ true) (n : inside L (pc rs) ≡ true → held ≡ false) where
     act-lawful : (i : Instruction) → Lawful (judgeAct L held rs i)
     unfolding judgeAct Lawful
     act-lawful i =
         choose Lawful _ (λ p. tt) λ p.
-        let passes : Touches L held rs i → Passed L held rs previous i =
+        let passes : Touches L held rs i → CausesPassed L held rs previous i =
         λ t. record { executable = x; unheld = n; unprivileged = not-second _ _ p; touches = t } in
         choose Lawful _ (λ r. passes (λ f. absurd (true≢false (sym r ∙ f)))) λ r.
         choose Lawful _ (λ f. tt) λ f.
@@ -124,7 +124,7 @@ module _ (L : Layout) (held : Bool) (rs mem : List ℕ) (previous : ℕ) where
 
   -- an instruction that acts may be executed, does not enter the module again, and may do what it does
   module _ (i : Instruction) (e : judge L held rs mem previous ≡ Acts i) where
-    passed : Passed L held rs previous i
+    passed : CausesPassed L held rs previous i
     unfolding Lawful
     passed = subst Lawful e lawful
 

@@ -7,7 +7,7 @@ use native.Mathlib.Omega.{arith}
 use lib.Dec.{eqb, leb}
 use lib.ListN.{set}
 use borrow.Author.Tests.{eqb-true, eqb-false, eq-eqb, leb-false}
-use Rattle.base.specs.Word.{sum16, even, isEven}
+use Rattle.base.specs.Word.{sum16, dropBit0, isEven}
 use Rattle.base.proofs.Tests.{each, every, choose}
 use Rattle.isa.specs.declared.instruction.Instruction.{Instruction}
 use Rattle.isa.specs.Cycles.{lengthOf}
@@ -42,7 +42,7 @@ unfolding write
 write-framed inside rs n w r =
     choose FramedRegisters (eqb n 3) (λ e. r) λ e.
     let m = eqb-false n 3 e in
-    choose FramedRegisters (leb n 1) (λ f. set-framed rs n (even w) (omega arith) r) λ f.
+    choose FramedRegisters (leb n 1) (λ f. set-framed rs n (dropBit0 w) (omega arith) r) λ f.
     let l = leb-false n 1 f in
     choose FramedRegisters _ (λ g. set-framed rs 2 _ (omega arith) r) (λ g. set-framed rs n w (omega arith) r)
 

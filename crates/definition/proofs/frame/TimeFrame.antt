@@ -7,6 +7,7 @@ use native.Mathlib.Omega.{arith}
 use lib.Dec.{ltb, eqb}
 use borrow.Author.Tests.{eqb-false, ltb-false, leb-true, lt-ltb, le-leb}
 use Rattle.base.proofs.Tests.{cases, each, every, choose}
+use Rattle.definition.specs.Setting.{Setting}
 use Rattle.definition.specs.declared.state.Stamp.{Stamp}
 use Rattle.definition.specs.declared.state.Stamp.the-variants.{Never, At}
 use Rattle.definition.specs.declared.state.Time.{Time}
@@ -46,11 +47,11 @@ pub record FramedTime (t : Time) : Type 0 where
   pub slot : framedSlot (t .clock) (t .slot) ≡ true
   pub alarm : framedAlarm (t .clock) (t .alarm) ≡ true
 
-pub pass-framed : (stamps : List ℕ) (n : ℕ) (t : Time) → FramedTime t → FramedTime (pass stamps n t)
+pub pass-framed : (S : Setting) (n : ℕ) (t : Time) → FramedTime t → FramedTime (pass S n t)
 unfolding pass
-pass-framed stamps n t f =
+pass-framed S n t f =
     record {
-      slot = filled-slot (t .clock) _ (t .slot) _ (omega arith) (f .slot) (within-slot _ _ _ (request-within stamps (t .alarm) _ _));
+      slot = filled-slot (t .clock) _ (t .slot) _ (omega arith) (f .slot) (within-slot _ _ _ (request-within S (t .alarm) _ _));
       alarm = alarm-left _ _ (t .alarm) (f .alarm);
     }
 

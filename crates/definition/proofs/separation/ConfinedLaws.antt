@@ -7,10 +7,10 @@ use Rattle.definition.proofs.step.TouchLaws.{acted-own}
 
 pub inside-confined : InsideConfined
 unfolding InsideConfined
-inside-confined L stamps m mem i fit h free e =
-    let own = acted-own L m mem i e in
+inside-confined S m mem i fit h free e =
+    let own = acted-own S m mem i e in
     record {
-      time = next-inside L stamps m mem i e h;
+      time = next-inside S m mem i e h;
       memory = record { long = sym (own .long); same = λ a o. sym (own .other fit a (h ∙ sym o)) };
-      enabled = next-gie L stamps m mem i h;
+      enabled = next-gie S m mem i h;
     }

@@ -6,9 +6,9 @@ use Prim.Native.Nat.{ℕ, _+_, _≤_}
 use native.Mathlib.Omega.{arith}
 use Rattle.base.proofs.Tests.{if-true, choose}
 use Rattle.isa.specs.declared.instruction.Instruction.{Instruction}
-use Rattle.layout.specs.declared.sections.Layout.{Layout}
-use Rattle.definition.specs.declared.state.Visit.{Visit}
-use Rattle.definition.specs.declared.state.Visit.the-variants.{Free, Held}
+use Rattle.definition.specs.Setting.{Setting}
+use Rattle.definition.specs.declared.state.SavedContext.{SavedContext}
+use Rattle.definition.specs.declared.state.SavedContext.the-variants.{Unheld, Held}
 use Rattle.definition.specs.declared.state.State.{State}
 use Rattle.definition.specs.declared.answer.Cause.{Cause}
 use Rattle.definition.specs.Time.{pass, emptied}
@@ -21,34 +21,34 @@ use Rattle.definition.proofs.frame.FrameLaws.{held-framed}
 
 -- the step adds from least to most cycles to the clock c
 pub record Adds (least most c : ℕ) (s : Step) : Type 0 where
-  pub at-least : c + least ≤ s .machine .time .clock
-  pub at-most : s .machine .time .clock ≤ c + most
+  pub at-least : c + least ≤ s .state .time .clock
+  pub at-most : s .state .time .clock ≤ c + most
 
 -- so do a step's last cycles, from the clock b, after those that come before them
 after : {least most total b c : ℕ} {s : Step} → Adds least most b s → c + 1 ≤ b + least → b + most ≤ c + total → Adds 1 total c s
 after h l g = omega arith
 
-module _ (L : Layout) (stamps : List ℕ) where
-  pub reset-adds : (c : Cause) (m : State) (mem : List ℕ) → Adds 4 4 (m .time .clock) (reset stamps c m mem)
+module _ (S : Setting) where
+  pub reset-adds : (c : Cause) (m : State) (mem : List ℕ) → Adds 4 4 (m .time .clock) (reset S c m mem)
   unfolding reset emptied pass
   reset-adds c m mem = omega arith
 
-  pub plain-adds : (m : State) (mem : List ℕ) → Adds 4 6 (m .time .clock) (plain L stamps m mem)
+  pub plain-adds : (m : State) (mem : List ℕ) → Adds 4 6 (m .time .clock) (plain S m mem)
   unfolding plain reset emptied pass
   plain-adds m mem = choose (Adds 4 6 (m .time .clock)) _ (λ e. omega arith) (λ e. omega arith)
 
-  pub padded-adds : (s : ℕ) (m : State) (mem : List ℕ) → Adds 6 12 (m .time .clock) (padded L stamps s m mem)
+  pub padded-adds : (s : ℕ) (m : State) (mem : List ℕ) → Adds 6 12 (m .time .clock) (padded S s m mem)
   unfolding padded emptied pass ageOf
   padded-adds s m mem = omega arith
 
   module _ (m : State) (mem : List ℕ) where
     next-range : (i : Instruction)
-        → (m .time .clock + 1 ≤ next L stamps m mem i .time .clock) × (next L stamps m mem i .time .clock ≤ m .time .clock + 5)
-    next-range i = let n = cycles-range i in omega (arith, next-clock L stamps m mem i)
+        → (m .time .clock + 1 ≤ next S m mem i .time .clock) × (next S m mem i .time .clock ≤ m .time .clock + 5)
+    next-range i = let n = cycles-range i in omega (arith, next-clock S m mem i)
 
     -- by the most that a held age can be
-    module _ (most : ℕ) (f : (p a : ℕ) → m .visit ≡ Held p a → a ≤ most) where
-      way-adds : (s : Step) → Way L stamps m mem s → Adds 1 (17 + most) (m .time .clock) s
+    module _ (most : ℕ) (f : (p a : ℕ) → m .context ≡ Held p a → a ≤ most) where
+      way-adds : (s : Step) → Way S m mem s → Adds 1 (17 + most) (m .time .clock) s
       unfolding chained back emptied pass
       way-adds s (resets c e) = after (reset-adds c m mem) (omega arith) (omega arith)
       way-adds s (halts i e h) = let k = next-range i in omega arith
@@ -62,21 +62,21 @@ module _ (L : Layout) (stamps : List ℕ) where
 
 pub step-cycles : StepCycles
 unfolding StepCycles
-step-cycles L stamps m mem f r =
-    let a = way-adds L stamps m mem 6 (λ p a h. held-framed L m p a f h .age-bound) _ (way L stamps m mem r) in
+step-cycles S m mem f r =
+    let a = way-adds S m mem 6 (λ p a h. held-framed S m p a f h .age-bound) _ (way S m mem r) in
     (a .at-least, omega arith)
 
 -- whatever its state, a running machine's clock rises
-heldAge : Visit → ℕ
-heldAge Free = 0
+heldAge : SavedContext → ℕ
+heldAge Unheld = 0
 heldAge (Held previous age) = age
 
-pub clock-rises : (L : Layout) (stamps : List ℕ) (m : State) (mem : List ℕ) → m .halted ≡ false
-    → m .time .clock + 1 ≤ step L stamps m mem .machine .time .clock
+pub clock-rises : (S : Setting) (m : State) (mem : List ℕ) → m .halted ≡ false
+    → m .time .clock + 1 ≤ step S m mem .state .time .clock
 unfolding heldAge
-clock-rises L stamps m mem r =
-    way-adds L stamps m mem (heldAge (m .visit)) (λ p a h. let k = ap heldAge h in omega arith) _ (way L stamps m mem r) .at-least
+clock-rises S m mem r =
+    way-adds S m mem (heldAge (m .context)) (λ p a h. let k = ap heldAge h in omega arith) _ (way S m mem r) .at-least
 
 pub halted-stays : HaltedStays
 unfolding HaltedStays step
-halted-stays L stamps m mem h = if-true _ _ _ h
+halted-stays S m mem h = if-true _ _ _ h

@@ -8,18 +8,18 @@ use lib.ListN.{set}
 use borrow.Author.Tests.{eq-eqb, leb-true}
 use Rattle.base.proofs.Tests.{cases, every, if-true, if-false, choose}
 use Rattle.isa.specs.declared.instruction.Instruction.{Instruction}
-use Rattle.layout.specs.declared.sections.Layout.{Layout}
 use Rattle.layout.specs.Sections.{inside}
 use Rattle.alu.specs.Status.{gie}
 use Rattle.alu.specs.Laws.{FlagsOnly, GieKept}
 use Rattle.alu.proofs.StatusBits.{flags-only, gie-kept}
+use Rattle.definition.specs.Setting.{Setting}
 use Rattle.definition.specs.declared.state.Stamp.the-variants.{Never, At}
 use Rattle.definition.specs.declared.state.State.{State}
 use Rattle.definition.specs.Registers.{register, sr, pc, write, cleared}
 use Rattle.definition.specs.Act.{past}
 use Rattle.definition.specs.Interrupt.{Step, due, chained}
 use Rattle.definition.specs.Step.{executed}
-use Rattle.definition.specs.Laws.{GieKeptInside, Quiet, ChainsWhateverGie}
+use Rattle.definition.specs.Laws.{GieKeptInside, NothingDue, ChainsWhateverGie}
 use Rattle.definition.proofs.instruction.ActLaws.{register-set, registers-after}
 use Rattle.definition.proofs.step.StepLaws.{next, step-chains}
 
@@ -48,10 +48,10 @@ gie-kept-inside rs mem device i =
     registers-after (Gie b) true rs device mem (write-gie b) (λ x c h. set-gie b x 2 _ (λ k. flags-only (sr x) c .1 ∙ h) h) i
     (set-gie b rs 0 _ (λ k. absurd (omega arith)) refl)
 
-pub next-gie : (L : Layout) (stamps : List ℕ) (m : State) (mem : List ℕ) (i : Instruction) → inside L (pc (m .registers)) ≡ true
-    → gie (sr (next L stamps m mem i .registers)) ≡ gie (sr (m .registers))
+pub next-gie : (S : Setting) (m : State) (mem : List ℕ) (i : Instruction) → inside (S .layout) (pc (m .registers)) ≡ true
+    → gie (sr (next S m mem i .registers)) ≡ gie (sr (m .registers))
 unfolding executed GieKeptInside
-next-gie L stamps m mem i h = rw h (gie-kept-inside (m .registers) mem _ i)
+next-gie S m mem i h = rw h (gie-kept-inside (m .registers) mem _ i)
 
 -- ---- what is due
 
@@ -66,16 +66,16 @@ pub at-due : (m : State) (s : ℕ) → gie (sr (m .registers)) ≡ true → m .t
 unfolding due
 at-due m s g e = if-true _ _ _ g ∙ e
 
--- where nothing is due the machine is quiet
-pub due-never : (m : State) → due m ≡ Never → Quiet m
+-- no interrupt is due: where GIE is set the slot is empty
+pub due-never : (m : State) → due m ≡ Never → NothingDue m
 unfolding due
 due-never m e g = sym (if-true _ _ _ g) ∙ e
 
 -- a return that chains does so whatever GIE is
 pub chains-whatever-gie : ChainsWhateverGie
 unfolding ChainsWhateverGie chained
-chains-whatever-gie L stamps m mem previous age s r v e f =
-    ap (λ (z : Step). z .outcome) (step-chains L stamps m mem r previous age s (record { holding = v; acting = e }) f)
+chains-whatever-gie S m mem previous age s r v e f =
+    ap (λ (z : Step). z .outcome) (step-chains S m mem r previous age s (record { holding = v; acting = e }) f)
 
 -- ---- registers of a service
 

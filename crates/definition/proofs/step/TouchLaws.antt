@@ -5,16 +5,17 @@ use mathlib.Core.Bool.{true, false, true≢false}
 use mathlib.Core.List.{List, []}
 use Prim.Native.Nat.{ℕ}
 use lib.ListN.{length}
-use Rattle.base.specs.Word.{even}
+use Rattle.base.specs.Word.{dropBit0}
 use Rattle.base.proofs.Tests.{cases, each, choose}
 use Rattle.isa.specs.declared.instruction.Instruction.{Instruction}
-use Rattle.layout.specs.declared.sections.Layout.{Layout}
 use Rattle.layout.specs.declared.access.Right.the-variants.{Write}
+use Rattle.layout.specs.declared.sections.Layout.{Layout}
 use Rattle.layout.specs.Sections.{inside, outside}
 use Rattle.layout.specs.Rules.{accepted}
 use Rattle.layout.specs.Access.{may}
 use Rattle.layout.proofs.SectionLaws.{section-outside, data-not-outside}
 use Rattle.layout.proofs.AccessLaws.{elsewhere-touches-outside, inside-touches-data}
+use Rattle.definition.specs.Setting.{Setting}
 use Rattle.definition.specs.declared.state.State.{State}
 use Rattle.definition.specs.declared.answer.Cause.{Cause}
 use Rattle.definition.specs.declared.answer.Cause.the-variants.{Write as barred}
@@ -24,14 +25,15 @@ use Rattle.definition.specs.Memory.{byteAt, putWord}
 use Rattle.definition.specs.Registers.{register, pc, cleared}
 use Rattle.definition.specs.Outcome.{isReset}
 use Rattle.definition.specs.Time.{emptied}
+use Rattle.definition.specs.State.{world}
 use Rattle.definition.specs.declared.judge.Judged.the-variants.{Acts}
 use Rattle.definition.specs.Interrupt.{Step, reset, plain, padded, chained}
-use Rattle.definition.specs.Step.{step}
-use Rattle.definition.specs.Laws.{LengthKept, WritesOwnSide, Fallen, ResetAfterStore}
+use Rattle.definition.specs.Step.{judged, step}
+use Rattle.definition.specs.Laws.{LengthKept, WritesOwnSide, AfterReset, ResetAfterStore}
 use Rattle.definition.proofs.instruction.MemoryLaws.{put-length, even-side, put-side}
 use Rattle.definition.proofs.instruction.ActLaws.{kept-or-stored}
 use Rattle.definition.proofs.cause.JudgeLaws.{each-may, acts-writes}
-use Rattle.definition.proofs.step.StepLaws.{judged, bytes, Way, resets, halts, runs, serves, pads, chains, returns, padsAgain, step-case}
+use Rattle.definition.proofs.step.StepLaws.{bytes, Way, resets, halts, runs, serves, pads, chains, returns, padsAgain, step-case}
 
 -- ---- memory
 
@@ -43,81 +45,80 @@ may-write-side L from a e f =
     (λ i. true≢false (sym (section-outside L a (elsewhere-touches-outside L from a Write i refl e)) ∙ f ∙ i))
 
 -- a memory that is as long as before, and the same on the other side than an instruction's
-pub record OwnSide (L : Layout) (from : ℕ) (mem after : List ℕ) : Type 0 where
+pub record OwnSide (S : Setting) (from : ℕ) (mem after : List ℕ) : Type 0 where
   pub long : length after ≡ length mem
-  pub other : accepted L ≡ true → (a : ℕ) → inside L from ≡ outside L a → byteAt after a ≡ byteAt mem a
+  pub other : accepted (S .layout) ≡ true → (a : ℕ) → inside (S .layout) from ≡ outside (S .layout) a → byteAt after a ≡ byteAt mem a
 
-module _ (L : Layout) (m : State) (mem : List ℕ) where
+module _ (S : Setting) (m : State) (mem : List ℕ) where
   abbrev Own : List ℕ → Type 0
-  Own after = OwnSide L (pc (m .registers)) mem after
+  Own after = OwnSide S (pc (m .registers)) mem after
 
   kept-own : Own mem
   kept-own = record { long = refl; other = λ v a k. refl }
 
-  put-own : (x : List ℕ) (b w : ℕ) → (accepted L ≡ true → outside L (even b) ≢ inside L (pc (m .registers))) → Own x
+  put-own : (x : List ℕ) (b w : ℕ) → (accepted (S .layout) ≡ true → outside (S .layout) (dropBit0 b) ≢ inside (S .layout) (pc (m .registers))) → Own x
       → Own (putWord x b w)
   put-own x b w n o =
       record {
         long = put-length x b w ∙ o .long;
-        other = λ v a k. put-side L v x b w a (λ f. n v (sym f ∙ sym k)) ∙ o .other v a k;
+        other = λ v a k. put-side (S .layout) v x b w a (λ f. n v (sym f ∙ sym k)) ∙ o .other v a k;
       }
 
-  pub acted-own : (i : Instruction) → judged L m mem ≡ Acts i → Own (bytes m mem i)
+  pub acted-own : (i : Instruction) → judged S (world m mem) ≡ Acts i → Own (bytes m mem i)
   acted-own i e =
       kept-or-stored (λ (f : List ℕ → List ℕ). Own (f mem)) (m .registers) i kept-own λ b w h.
-      let may-write = each-may L _ Write b [] (rw h at (acts-writes L _ _ mem _ i e)) .0 in
-      put-own mem b w (λ v. may-write-side L _ _ may-write) kept-own
+      let may-write = each-may (S .layout) _ Write b [] (rw h at (acts-writes (S .layout) _ _ mem _ i e)) .0 in
+      put-own mem b w (λ v. may-write-side (S .layout) _ _ may-write) kept-own
 
-  module _ (stamps : List ℕ) where
-    -- a plain interrupt writes only outside
-    plain-own : (next : State) (x : List ℕ) → inside L (pc (m .registers)) ≡ false → Own x → Own (plain L stamps next x .memory)
-    unfolding plain reset
-    plain-own next x i o =
-        let apart : (b : ℕ) → outside L b ≡ true → accepted L ≡ true → outside L (even b) ≢ inside L (pc (m .registers)) =
-        λ b h v f. true≢false (sym h ∙ sym (even-side L v b) ∙ f ∙ i) in
-        choose (λ (s : Step). Own (s .memory)) _
-        (λ e. let h = each _ e in put-own _ _ _ (apart _ (h .1 .0)) (put-own x _ _ (apart _ (h .0)) o)) (λ e. o)
+  -- a plain interrupt writes only outside
+  plain-own : (next : State) (x : List ℕ) → inside (S .layout) (pc (m .registers)) ≡ false → Own x → Own (plain S next x .memory)
+  unfolding plain reset
+  plain-own next x i o =
+      let apart : (b : ℕ) → outside (S .layout) b ≡ true → accepted (S .layout) ≡ true → outside (S .layout) (dropBit0 b) ≢ inside (S .layout) (pc (m .registers)) =
+      λ b h v f. true≢false (sym h ∙ sym (even-side (S .layout) v b) ∙ f ∙ i) in
+      choose (λ (s : Step). Own (s .memory)) _
+      (λ e. let h = each _ e in put-own _ _ _ (apart _ (h .1 .0)) (put-own x _ _ (apart _ (h .0)) o)) (λ e. o)
 
-    way-own : (s : Step) → Way L stamps m mem s → Own (s .memory)
-    unfolding reset padded chained
-    way-own s (resets c e) = kept-own
-    way-own s (halts i e h) = acted-own i e
-    way-own s (runs i r d) = acted-own i (r .acting)
-    way-own s (serves i u r o d) = plain-own _ _ o (acted-own i (r .acting))
-    way-own s (pads i u r o d) = acted-own i (r .acting)
-    way-own s (chains p a u r d) = kept-own
-    way-own s (returns p a r n d) = kept-own
-    way-own s (padsAgain p a u r n d) = kept-own
+  way-own : (s : Step) → Way S m mem s → Own (s .memory)
+  unfolding reset padded chained
+  way-own s (resets c e) = kept-own
+  way-own s (halts i e h) = acted-own i e
+  way-own s (runs i r d) = acted-own i (r .acting)
+  way-own s (serves i u r o d) = plain-own _ _ o (acted-own i (r .acting))
+  way-own s (pads i u r o d) = acted-own i (r .acting)
+  way-own s (chains p a u r d) = kept-own
+  way-own s (returns p a r n d) = kept-own
+  way-own s (padsAgain p a u r n d) = kept-own
 
-    step-own : Own (step L stamps m mem .memory)
-    step-own = step-case L stamps m mem (λ (s : Step). Own (s .memory)) (λ h. kept-own) way-own
+  step-own : Own (step S m mem .memory)
+  step-own = step-case S m mem (λ (s : Step). Own (s .memory)) (λ h. kept-own) way-own
 
 pub length-kept : LengthKept
 unfolding LengthKept
-length-kept L stamps m mem = step-own L m mem stamps .long
+length-kept S m mem = step-own S m mem .long
 
 pub writes-own-side : WritesOwnSide
 unfolding WritesOwnSide
-writes-own-side L stamps m mem a v =
-    let kept = step-own L m mem stamps .other v a in (λ i o. kept (i ∙ sym o), λ i o. kept (i ∙ sym o))
+writes-own-side S m mem a v =
+    let kept = step-own S m mem .other v a in (λ i o. kept (i ∙ sym o), λ i o. kept (i ∙ sym o))
 
 -- ---- reset
 
 -- a step whose outcome is a reset is the reset of some machine and memory
-abbrev FromReset : Layout → List ℕ → Step → Type 0
-FromReset L stamps s =
-    (c : Cause) → s .outcome ≡ Reset c → (d : Cause) × ((x : State) × ((bytes : List ℕ) × (s ≡ reset stamps d x bytes)))
+abbrev FromReset : Setting → Step → Type 0
+FromReset S s =
+    (c : Cause) → s .outcome ≡ Reset c → (d : Cause) × ((x : State) × ((bytes : List ℕ) × (s ≡ reset S d x bytes)))
 
 -- an outcome that is no reset
 other : {A : Type 0} {o : Outcome} {c : Cause} → isReset o ≡ false → o ≡ Reset c → A
 other h e = absurd (true≢false (sym (ap isReset e) ∙ h))
 
-module _ (L : Layout) (stamps : List ℕ) where
-  plain-reset : (m : State) (mem : List ℕ) → FromReset L stamps (plain L stamps m mem)
+module _ (S : Setting) where
+  plain-reset : (m : State) (mem : List ℕ) → FromReset S (plain S m mem)
   unfolding plain
-  plain-reset m mem = choose (FromReset L stamps) _ (λ e c f. other refl f) (λ e c f. (barred, (m, (mem, refl))))
+  plain-reset m mem = choose (FromReset S) _ (λ e c f. other refl f) (λ e c f. (barred, (m, (mem, refl))))
 
-  way-reset : (m : State) (mem : List ℕ) (s : Step) → Way L stamps m mem s → FromReset L stamps s
+  way-reset : (m : State) (mem : List ℕ) (s : Step) → Way S m mem s → FromReset S s
   unfolding padded chained
   way-reset m mem s (resets d e) c f = (d, (m, (mem, refl)))
   way-reset m mem s (halts i e h) c f = other refl f
@@ -129,12 +130,12 @@ module _ (L : Layout) (stamps : List ℕ) where
   way-reset m mem s (padsAgain p a u r n d) c f = other refl f
 
   -- what a reset leaves
-  reset-leaves : (d : Cause) (x : State) (bytes : List ℕ) → Fallen (reset stamps d x bytes)
+  reset-leaves : (d : Cause) (x : State) (bytes : List ℕ) → AfterReset (reset S d x bytes)
   unfolding reset cleared register emptied
-  reset-leaves d x bytes = record { address = refl; slot = refl; visit = refl }
+  reset-leaves d x bytes = record { address = refl; slot = refl; context = refl }
 
 pub reset-after-store : ResetAfterStore
 unfolding ResetAfterStore
-reset-after-store L stamps m mem c e =
-    let r = step-case L stamps m mem (FromReset L stamps) (λ h c f. other refl f) (way-reset L stamps m mem) c e in
-    subst Fallen (sym (r .1 .1 .1)) (reset-leaves L stamps (r .0) (r .1 .0) (r .1 .1 .0))
+reset-after-store S m mem c e =
+    let r = step-case S m mem (FromReset S) (λ h c f. other refl f) (way-reset S m mem) c e in
+    subst AfterReset (sym (r .1 .1 .1)) (reset-leaves S (r .0) (r .1 .0) (r .1 .1 .0))

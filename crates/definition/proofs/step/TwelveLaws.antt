@@ -4,7 +4,7 @@ use mathlib.Core.List.{List}
 use Prim.Native.Nat.{ℕ, _+_, _-_, _≤_, _<_, min}
 use native.Mathlib.Omega.{arith}
 use Rattle.isa.specs.Cycles.{cyclesOf}
-use Rattle.layout.specs.declared.sections.Layout.{Layout}
+use Rattle.definition.specs.Setting.{Setting}
 use Rattle.definition.specs.declared.state.Stamp.the-variants.{Never, At}
 use Rattle.definition.specs.declared.state.Time.{Time}
 use Rattle.definition.specs.declared.state.State.{State}
@@ -25,41 +25,41 @@ padding t n s h k l = omega arith
 
 pub padded-by-stamp : PaddedByStamp
 unfolding PaddedByStamp padded PassAdds
-padded-by-stamp L stamps m mem t n s e l p h =
-    let w = pass-filled stamps n t s e (ap (λ (x : Time). x .slot) (sym p) ∙ h) in
-    let wait = 6 - ageOf (pass stamps n t .clock) s in
-    ap (λ (x : Time). pass stamps 6 (emptied (pass stamps (6 - ageOf (x .clock) s) x))) p
-    ∙ ap (λ (x : Time). pass stamps 6 (emptied x)) (pass-adds stamps n wait t)
-    ∙ ap (λ (x : ℕ). pass stamps 6 (emptied (pass stamps x t))) (rw pass-clock (padding (t .clock) n s (w .0) (w .1) l))
+padded-by-stamp S m mem t n s e l p h =
+    let w = pass-filled S n t s e (ap (λ (x : Time). x .slot) (sym p) ∙ h) in
+    let wait = 6 - ageOf (pass S n t .clock) s in
+    ap (λ (x : Time). pass S 6 (emptied (pass S (6 - ageOf (x .clock) s) x))) p
+    ∙ ap (λ (x : Time). pass S 6 (emptied x)) (pass-adds S n wait t)
+    ∙ ap (λ (x : ℕ). pass S 6 (emptied (pass S x t))) (rw pass-clock (padding (t .clock) n s (w .0) (w .1) l))
 
 -- the two waits of a padded interrupt
 pub padding-sum : PaddingSum
 unfolding PaddingSum padded back pass emptied ageOf
-padding-sum L stamps s m mem t previous age saved v =
+padding-sum S s m mem t previous age saved v =
     let e : min (m .time .clock - s) 6 ≡ age = cc in omega arith
 
 -- the step serves the stamp, 12 cycles after it
 abbrev Twelve : ℕ → Step → Type 0
-Twelve s z = (z .outcome ≡ Padded) × (z .machine .time .clock ≡ s + 12)
+Twelve s z = (z .outcome ≡ Padded) × (z .state .time .clock ≡ s + 12)
 
-padded-twelve : (L : Layout) (stamps : List ℕ) (m : State) (mem : List ℕ) (t : Time) (n s : ℕ)
-    → t .slot ≡ Never → n ≤ 6 → m .time ≡ pass stamps n t → m .time .slot ≡ At s → Twelve s (padded L stamps s m mem)
+padded-twelve : (S : Setting) (m : State) (mem : List ℕ) (t : Time) (n s : ℕ)
+    → t .slot ≡ Never → n ≤ 6 → m .time ≡ pass S n t → m .time .slot ≡ At s → Twelve s (padded S s m mem)
 unfolding padded pass emptied ageOf
-padded-twelve L stamps m mem t n s e l p h =
-    let w = pass-filled stamps n t s e (ap (λ (x : Time). x .slot) (sym p) ∙ h) in
+padded-twelve S m mem t n s e l p h =
+    let w = pass-filled S n t s e (ap (λ (x : Time). x .slot) (sym p) ∙ h) in
     let c = ap (λ (x : Time). x .clock) p in
     (refl, omega arith)
 
 pub twelve-inside : TwelveInside
 unfolding TwelveInside
-twelve-inside L stamps m mem i s r h v e g n f =
-    subst (Twelve s) (sym (step-pads L stamps m mem r i s e h (at-due _ s (next-gie L stamps m mem i h ∙ g) f)))
-    (padded-twelve L stamps _ _ (m .time) (cyclesOf i) s n (omega (arith, cycles-range i .1)) (next-inside L stamps m mem i e h) f)
+twelve-inside S m mem i s r h v e g n f =
+    subst (Twelve s) (sym (step-pads S m mem r i s e h (at-due _ s (next-gie S m mem i h ∙ g) f)))
+    (padded-twelve S _ _ (m .time) (cyclesOf i) s n (omega (arith, cycles-range i .1)) (next-inside S m mem i e h) f)
 
 pub twelve-in-return : TwelveInReturn
 unfolding TwelveInReturn back
-twelve-in-return L stamps m mem previous age s r f v e n h =
-    let k = held-framed L m previous age f v in
-    let d = at-due (afterReturn L stamps m previous age) s (k .gie-set) h in
-    subst (Twelve s) (sym (step-pads-again L stamps m mem r previous age s (record { holding = v; acting = e }) n d))
-    (padded-twelve L stamps (afterReturn L stamps m previous age) mem (afterReti stamps m) age s n (k .age-bound) refl h)
+twelve-in-return S m mem previous age s r f v e n h =
+    let k = held-framed S m previous age f v in
+    let d = at-due (afterReturn S m previous age) s (k .gie-set) h in
+    subst (Twelve s) (sym (step-pads-again S m mem r previous age s (record { holding = v; acting = e }) n d))
+    (padded-twelve S (afterReturn S m previous age) mem (afterReti S m) age s n (k .age-bound) refl h)

@@ -1,4 +1,4 @@
-use Rattle.definition.proofs.step.QuietLaws.{age-at-most-five}
+use Rattle.definition.proofs.step.NothingDueLaws.{age-at-most-five}
 use Rattle.definition.proofs.laws.age_at_most_five.Statement.{statement}
 use Rattle.definition.proofs.laws.age_at_most_five.Tie as tie
 

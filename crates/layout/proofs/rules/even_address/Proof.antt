@@ -1,8 +1,8 @@
 use mathlib.Core.Path.{refl}
 use borrow.Author.Needs.{needs}
 use borrow.Author.Tests.{lt-ltb}
-use Rattle.layout.specs.Rules.{evenAddress}
 use Rattle.base.proofs.Tests.{and-then, and-last}
+use Rattle.layout.specs.Rules.{evenAddress}
 use Rattle.layout.proofs.rules.even_address.Statement.{statement}
 use Rattle.layout.proofs.rules.even_address.Tie as tie
 

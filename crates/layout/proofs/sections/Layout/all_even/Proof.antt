@@ -1,6 +1,6 @@
 use borrow.Author.Needs.{needs}
-use Rattle.layout.specs.Rules.{allEven}
 use Rattle.base.proofs.Tests.{and-stop, and-then, and-last}
+use Rattle.layout.specs.Rules.{allEven}
 use Rattle.layout.proofs.sections.Layout.all_even.Statement.{statement}
 use Rattle.layout.proofs.sections.Layout.all_even.Tie as tie
 

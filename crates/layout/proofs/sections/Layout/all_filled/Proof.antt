@@ -1,6 +1,6 @@
 use borrow.Author.Needs.{needs}
-use Rattle.layout.specs.Rules.{allFilled}
 use Rattle.base.proofs.Tests.{and-stop, and-then, and-last}
+use Rattle.layout.specs.Rules.{allFilled}
 use Rattle.layout.proofs.sections.Layout.all_filled.Statement.{statement}
 use Rattle.layout.proofs.sections.Layout.all_filled.Tie as tie
 

@@ -1,6 +1,8 @@
 use borrow.Author.Needs.{needs}
-use Rattle.layout.specs.Rules.{firstBroken, layoutFault}
+use Rattle.base.specs.Test.{if_then_else_}
+use Rattle.base.specs.FirstFailure.{firstFailure}
 use Rattle.base.proofs.Tests.{fails, holds}
+use Rattle.layout.specs.Rules.{layoutFault}
 use Rattle.layout.proofs.sections.Layout.fault.Statement.{statement}
 use Rattle.layout.proofs.sections.Layout.fault.Tie as tie
 
@@ -8,14 +10,14 @@ all-even-requires : tie.Need-all-even-requires
 all-even-requires c κs = search needs
 
 returns : tie.Need-returns
-unfolding layoutFault firstBroken
+unfolding layoutFault firstFailure if_then_else_
 returns c = simp (fails (c .before .all-even .ensures) (c .if1 .taken))
 
 all-filled-requires : tie.Need-all-filled-requires
 all-filled-requires c κs = search needs
 
 returns-2 : tie.Need-returns-2
-unfolding layoutFault firstBroken
+unfolding layoutFault firstFailure if_then_else_
 returns-2 c =
     simp (
       holds (c .before .before .before .all-even .ensures) (c .before .before .if1 .left),
@@ -26,7 +28,7 @@ is-apart-requires : tie.Need-is-apart-requires
 is-apart-requires c κs = search needs
 
 returns-3 : tie.Need-returns-3
-unfolding layoutFault firstBroken
+unfolding layoutFault firstFailure if_then_else_
 returns-3 c =
     simp (
       holds (c .before .before .before .before .before .all-even .ensures) (c .before .before .before .before .if1 .left),
@@ -38,7 +40,7 @@ outside-requires : tie.Need-outside-requires
 outside-requires c κs = search needs
 
 returns-4 : tie.Need-returns-4
-unfolding layoutFault firstBroken
+unfolding layoutFault firstFailure if_then_else_
 returns-4 c =
     simp (
       holds (c .before .before .before .before .before .before .before .all-even .ensures) (c .before .before .before .before .before .before .if1 .left),
@@ -48,7 +50,7 @@ returns-4 c =
     )
 
 returns-5 : tie.Need-returns-5
-unfolding layoutFault firstBroken
+unfolding layoutFault firstFailure if_then_else_
 returns-5 c =
     simp (
       holds (c .before .before .before .before .before .before .before .all-even .ensures) (c .before .before .before .before .before .before .if1 .left),

@@ -1,6 +1,6 @@
 use borrow.Author.Needs.{needs}
-use Rattle.layout.specs.Rules.{evenSpan}
 use Rattle.base.proofs.Tests.{and-stop, and-then, and-last}
+use Rattle.layout.specs.Rules.{evenSpan}
 use Rattle.layout.proofs.sections.Span.is_even.Statement.{statement}
 use Rattle.layout.proofs.sections.Span.is_even.Tie as tie
 
