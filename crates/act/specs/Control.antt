@@ -5,17 +5,17 @@ use Rattle.act.specs.declared.control.Control.{Control}
 use Rattle.definition.specs.declared.state.State.{State}
 
 -- the machine with these registers and saved registers
-abbrev pub joined : List ℕ → List ℕ → Control → State
-joined registers saved c =
+abbrev pub withRegisters : List ℕ → List ℕ → Control → State
+withRegisters registers saved c =
     record {
       registers = registers;
       previous = c .previous;
       time = c .time;
-      visit = c .visit;
+      context = c .context;
       saved = saved;
       halted = c .halted;
     }
 
 -- what a machine has beside its registers
 abbrev pub controlOf : State → Control
-controlOf m = record { previous = m .previous; time = m .time; visit = m .visit; halted = m .halted }
+controlOf m = record { previous = m .previous; time = m .time; context = m .context; halted = m .halted }

@@ -1,15 +1,15 @@
 // A state whose registers are lent: they are changed where they lie, and the rest of it goes by value.
 ghost use mathlib.Core.Path.{_≡_};
-ghost use Rattle.act.specs.Control.{joined, controlOf};
+ghost use Rattle.act.specs.Control.{withRegisters, controlOf};
+use definition::state::SavedContext;
 use definition::state::State;
 use definition::state::Time;
-use definition::state::Visit;
 
 // What a state has beside its registers and its saved registers.
 pub struct Control {
     pub previous: u16,
     pub time: Time,
-    pub visit: Visit,
+    pub context: SavedContext,
     pub halted: bool,
 }
 
@@ -19,26 +19,26 @@ impl Control {
         ensures { λ r. ⌜ r ≡ controlOf s ⌝ }
     {
         let time = s.time;
-        let visit = s.visit;
+        let context = s.context;
         Control {
             previous: s.previous,
             time: time,
-            visit: visit,
+            context: context,
             halted: s.halted,
         }
     }
 
     // The state with these registers and saved registers.
     pub fn state(self, registers: [u16; 16], saved: [u16; 16]) -> State
-        ensures { λ r. ⌜ r ≡ joined registers saved self ⌝ }
+        ensures { λ r. ⌜ r ≡ withRegisters registers saved self ⌝ }
     {
         let time = self.time;
-        let visit = self.visit;
+        let context = self.context;
         State {
             registers: registers,
             previous: self.previous,
             time: time,
-            visit: visit,
+            context: context,
             saved: saved,
             halted: self.halted,
         }

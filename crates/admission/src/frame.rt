@@ -1,13 +1,16 @@
 // The frame that every state the machine can be in keeps: what a caller hands in is tested for it.
 ghost use mathlib.Core.Path.{_≡_};
-ghost use Rattle.definition.specs.State.{framedRegisters, framedSlot, framedAlarm, framedVisit, framed};
-ghost use Rattle.act.specs.Control.{joined};
+ghost use Prim.Native.Nat.{ℕ};
+ghost use mathlib.Core.List.{List};
+ghost use Rattle.definition.specs.Setting.{settingOf};
+ghost use Rattle.definition.specs.State.{framedRegisters, framedSlot, framedAlarm, framedContext, framed};
+ghost use Rattle.act.specs.Control.{withRegisters};
 use act::control::Control;
 use alu::status::gie_is_set;
 use base::word::is_even;
+use definition::state::SavedContext;
 use definition::state::Stamp;
 use definition::state::State;
-use definition::state::Visit;
 use layout::sections::Layout;
 
 // pc and sp are even, r3 is zero.
@@ -38,12 +41,12 @@ fn alarm_fits(clock: u64, alarm: Stamp) -> bool
 }
 
 // A held visit's age is at most 6, its registers fit with GIE set, its previous address is inside and even.
-fn visit_fits(layout: Layout, saved: &[u16; 16], visit: Visit) -> bool
-    ensures { λ r. ⌜ r ≡ framedVisit layout (now (saved .entry)) visit ⌝ }
+fn context_fits(layout: Layout, saved: &[u16; 16], context: SavedContext) -> bool
+    ensures { λ r. ⌜ r ≡ framedContext layout (now (saved .entry)) context ⌝ }
 {
-    match visit {
-        Visit::Free => true,
-        Visit::Held { previous, age } => {
+    match context {
+        SavedContext::Unheld => true,
+        SavedContext::Held { previous, age } => {
             age <= 6
                 && (registers_fit(saved)
                     && (gie_is_set(saved[2]) && (layout.inside(previous) && is_even(previous))))
@@ -53,21 +56,21 @@ fn visit_fits(layout: Layout, saved: &[u16; 16], visit: Visit) -> bool
 
 // The state keeps the frame, with its registers and its saved registers lent.
 pub fn is_framed(control: Control, registers: &[u16; 16], saved: &[u16; 16], layout: Layout) -> bool
-    ensures { λ r. ⌜ r ≡ framed layout (joined (now (registers .entry)) (now (saved .entry)) control) ⌝ }
+    ensures { λ r. ⌜ ((stamps : List ℕ) → r ≡ framed (settingOf layout stamps) (withRegisters (now (registers .entry)) (now (saved .entry)) control)) ⌝ }
 {
-    let visit = control.visit;
+    let context = control.context;
     let time = control.time;
     let slot = time.slot;
     let alarm = time.alarm;
     registers_fit(registers)
         && (is_even(control.previous)
             && (slot_fits(time.clock, slot)
-                && (alarm_fits(time.clock, alarm) && visit_fits(layout, saved, visit))))
+                && (alarm_fits(time.clock, alarm) && context_fits(layout, saved, context))))
 }
 
 // The state keeps the frame.
 pub fn state_is_framed(m: State, layout: Layout) -> bool
-    ensures { λ r. ⌜ r ≡ framed layout m ⌝ }
+    ensures { λ r. ⌜ ((stamps : List ℕ) → r ≡ framed (settingOf layout stamps) m) ⌝ }
 {
     let registers = m.registers;
     let saved = m.saved;

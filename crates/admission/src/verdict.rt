@@ -1,38 +1,43 @@
 // Whether a call is taken: the refusals of what it takes, in number order.
 ghost use mathlib.Core.Path.{_≡_};
 ghost use lib.Dec.{leb};
+ghost use Rattle.base.specs.Limits.{lastClock, mostBudget};
+ghost use Rattle.base.specs.Verdict.{verdict};
+ghost use Rattle.definition.specs.Setting.{settingOf};
 ghost use Rattle.definition.specs.State.{world};
-ghost use Rattle.definition.specs.Run.{lastClock};
-ghost use Rattle.definition.specs.Calls.{wholeMemory, verdict, tests, runTests};
-ghost use Rattle.act.specs.Control.{joined};
+ghost use Rattle.definition.specs.Calls.{wholeMemory, testsFound, budgetTests, stepTests, runTests};
+ghost use Rattle.act.specs.Control.{withRegisters};
 use crate::frame::is_framed;
 use crate::frame::state_is_framed;
 use act::control::Control;
+use base::limits::LAST_CLOCK;
+use base::limits::MEMORY_BYTES;
+use base::limits::MOST_BUDGET;
 use base::refusal::Refusal;
+use base::verdict::Verdict;
 use clock::timetable::is_timetable;
 use definition::state::State;
-use definition::verdict::Verdict;
 use layout::sections::Layout;
 
 // Memory is 65,536 bytes.
-pub fn is_whole(mem: &[u8]) -> bool
+pub fn memory_is_whole(mem: &[u8]) -> bool
     ensures { λ r. ⌜ r ≡ wholeMemory (now (mem .entry)) ⌝ }
 {
-    mem.len() == 65536
+    mem.len() == MEMORY_BYTES
 }
 
 // The clock is not above 2^62.
-pub fn is_early(clock: u64) -> bool
+pub fn clock_allowed(clock: u64) -> bool
     ensures { λ r. ⌜ r ≡ leb clock lastClock ⌝ }
 {
-    clock <= 0x4000_0000_0000_0000
+    clock <= LAST_CLOCK
 }
 
 // The budget is at most 1,000,000.
-fn is_near(budget: u64) -> bool
-    ensures { λ r. ⌜ r ≡ leb budget 1000000 ⌝ }
+fn budget_allowed(budget: u64) -> bool
+    ensures { λ r. ⌜ r ≡ leb budget mostBudget ⌝ }
 {
-    budget <= 1000000
+    budget <= MOST_BUDGET
 }
 
 // The first of the tests 1 to 6 that fails.
@@ -44,7 +49,7 @@ fn first_refusal(
     near: bool,
     early: bool,
 ) -> Verdict
-    ensures { λ r. ⌜ r ≡ verdict (tests whole fence rising frame near early) ⌝ }
+    ensures { λ r. ⌜ r ≡ verdict (testsFound whole fence rising frame (budgetTests near) early) ⌝ }
 {
     if !whole {
         return Verdict::Refused(Refusal::Map);
@@ -69,19 +74,19 @@ fn first_refusal(
 
 // The first test of a run that fails.
 pub fn judge_run(m: State, mem: &[u8], layout: Layout, stamps: &[u64], budget: u64) -> Verdict
-    ensures { λ r. ⌜ r ≡ verdict (runTests layout (now (stamps .entry)) budget (world m (now (mem .entry)))) ⌝ }
+    ensures { λ r. ⌜ r ≡ verdict (runTests (settingOf layout (now (stamps .entry))) budget (world m (now (mem .entry)))) ⌝ }
 {
     first_refusal(
-        is_whole(mem),
+        memory_is_whole(mem),
         layout.accepted(),
         is_timetable(stamps),
         state_is_framed(m, layout),
-        is_near(budget),
-        is_early(m.time.clock),
+        budget_allowed(budget),
+        clock_allowed(m.time.clock),
     )
 }
 
-// The first test of a step that fails. A step takes no budget: it is judged as a run of budget 0.
+// The first test of a step that fails: a step takes no budget, so nothing is found against one.
 pub fn judge_step(
     control: Control,
     registers: &[u16; 16],
@@ -90,14 +95,14 @@ pub fn judge_step(
     layout: Layout,
     stamps: &[u64],
 ) -> Verdict
-    ensures { λ r. ⌜ r ≡ verdict (runTests layout (now (stamps .entry)) 0 (world (joined (now (registers .entry)) (now (saved .entry)) control) (now (mem .entry)))) ⌝ }
+    ensures { λ r. ⌜ r ≡ verdict (stepTests (settingOf layout (now (stamps .entry))) (world (withRegisters (now (registers .entry)) (now (saved .entry)) control) (now (mem .entry)))) ⌝ }
 {
     first_refusal(
-        is_whole(mem),
+        memory_is_whole(mem),
         layout.accepted(),
         is_timetable(stamps),
         is_framed(control, registers, saved, layout),
-        is_near(0),
-        is_early(control.time.clock),
+        true,
+        clock_allowed(control.time.clock),
     )
 }

@@ -1,2 +1,2 @@
-pub mod PlaceLaws
-pub mod StillLaws
+pub mod UpcomingLaws
+pub mod NoEventLaws

@@ -1,2 +1,2 @@
-pub mod Place
-pub mod Still
+pub mod Upcoming
+pub mod NoEvent

@@ -1,12 +1,15 @@
 // The clock, the requests and the pending slot that takes them.
 ghost use mathlib.Core.Path.{_≡_};
 ghost use mathlib.Core.Bool.{true, false};
-ghost use Prim.Native.Nat.{_+_, _≤_, _^_};
+ghost use Prim.Native.Nat.{_+_, _≤_};
+ghost use Rattle.base.specs.Limits.{lastClock};
+ghost use Rattle.layout.specs.declared.sections.Layout.{Layout};
+ghost use Rattle.definition.specs.Setting.{Setting, settingOf};
 ghost use Rattle.definition.specs.Time.{startTime, happens, happening, earlier, filledBy, alarmLeft, emptied, setAlarm, deviceWord, pass};
 ghost use Rattle.definition.specs.Calls.{timetable};
-ghost use Rattle.clock.specs.Place.{stampAt, Passed, RightPlace, Ready};
-ghost use Rattle.definition.specs.Run.{lastClock};
-ghost use Rattle.clock.specs.Still.{Misses, Still};
+ghost use Rattle.clock.specs.Upcoming.{stampAt, StampsPassed, IsUpcoming, clockRoom, CanPass};
+ghost use Rattle.clock.specs.NoEvent.{NotHappeningUntil, NoEventUntil};
+use base::limits::LAST_CLOCK;
 use definition::state::Stamp;
 use definition::state::Time;
 
@@ -86,21 +89,21 @@ fn alarm_left(a: u64, b: u64, alarm: Stamp) -> Stamp
     }
 }
 
-// The stamp at the place, if there is one.
-fn stamp_at(stamps: &[u64], place: usize) -> Stamp
-    ensures { λ r. ⌜ r ≡ stampAt (now (stamps .entry)) place ⌝ }
+// The stamp at the index, if there is one.
+fn stamp_at(stamps: &[u64], upcoming: usize) -> Stamp
+    ensures { λ r. ⌜ r ≡ stampAt (now (stamps .entry)) upcoming ⌝ }
 {
-    if place < stamps.len() {
-        return Stamp::At(stamps[place]);
+    if upcoming < stamps.len() {
+        return Stamp::At(stamps[upcoming]);
     }
     Stamp::Never
 }
 
-// The clock's place in the timetable, from one that the clock has passed: the stamps before it are not above the clock, the others are.
-pub fn advance(stamps: &[u64], place: usize, clock: u64) -> usize
-    ensures { λ r. ⌜ (timetable (now (stamps .entry)) ≡ true → Passed (now (stamps .entry)) clock place → RightPlace (now (stamps .entry)) clock r) ⌝ }
+// The index of the upcoming stamp, looked for from an earlier one on: the stamps before it are not above the clock, the others are.
+pub fn skip_passed(stamps: &[u64], upcoming: usize, clock: u64) -> usize
+    ensures { λ r. ⌜ (timetable (now (stamps .entry)) ≡ true → StampsPassed (now (stamps .entry)) clock upcoming → IsUpcoming (now (stamps .entry)) clock r) ⌝ }
 {
-    let mut i = place;
+    let mut i = upcoming;
     while i < stamps.len() {
         if clock < stamps[i] {
             return i;
@@ -110,22 +113,22 @@ pub fn advance(stamps: &[u64], place: usize, clock: u64) -> usize
     i
 }
 
-// The clock's place in the timetable.
-pub fn first_place(stamps: &[u64], clock: u64) -> usize
-    ensures { λ r. ⌜ (timetable (now (stamps .entry)) ≡ true → RightPlace (now (stamps .entry)) clock r) ⌝ }
+// The index of the upcoming stamp.
+pub fn find_upcoming(stamps: &[u64], clock: u64) -> usize
+    ensures { λ r. ⌜ (timetable (now (stamps .entry)) ≡ true → IsUpcoming (now (stamps .entry)) clock r) ⌝ }
 {
-    advance(stamps, 0, clock)
+    skip_passed(stamps, 0, clock)
 }
 
-// n cycles pass, with the clock's place: the only thing that moves the clock, fills the slot and rings the alarm.
-fn pass(t: Time, stamps: &[u64], place: usize, n: u64) -> Time
-    ensures { λ r. ⌜ (t .clock + n ≤ 2 ^ 63 → timetable (now (stamps .entry)) ≡ true → RightPlace (now (stamps .entry)) (t .clock) place → r ≡ pass (now (stamps .entry)) n t) ⌝ }
+// n cycles pass, with the index of the upcoming stamp: the only thing that moves the clock, fills the slot and rings the alarm.
+fn pass(t: Time, stamps: &[u64], upcoming: usize, n: u64) -> Time
+    ensures { λ r. ⌜ ((L : Layout) → t .clock + n ≤ clockRoom → timetable (now (stamps .entry)) ≡ true → IsUpcoming (now (stamps .entry)) (t .clock) upcoming → r ≡ pass (settingOf L (now (stamps .entry))) n t) ⌝ }
 {
     let a = t.clock;
     let b = std::num::wrapping_add_u64(a, n);
     let slot = t.slot;
     let alarm = t.alarm;
-    let next = stamp_at(stamps, place);
+    let next = stamp_at(stamps, upcoming);
     let request = earlier(happening(a, b, next), happening(a, b, alarm));
     Time {
         clock: b,
@@ -134,17 +137,17 @@ fn pass(t: Time, stamps: &[u64], place: usize, n: u64) -> Time
     }
 }
 
-// n cycles pass, from a place that the clock has passed.
-pub fn wait(t: Time, stamps: &[u64], place: usize, n: u64) -> Time
-    ensures { λ r. ⌜ (Ready (now (stamps .entry)) (t .clock) place n → r ≡ pass (now (stamps .entry)) n t) ⌝ }
+// n cycles pass, from an index before which the clock has passed all stamps.
+pub fn wait(t: Time, stamps: &[u64], upcoming: usize, n: u64) -> Time
+    ensures { λ r. ⌜ ((L : Layout) → CanPass (now (stamps .entry)) (t .clock) upcoming n → r ≡ pass (settingOf L (now (stamps .entry))) n t) ⌝ }
 {
-    let next = advance(stamps, place, t.clock);
+    let next = skip_passed(stamps, upcoming, t.clock);
     pass(t, stamps, next, n)
 }
 
 // The last clock value up to which a request does not happen: just before it, if it is still to happen.
 fn before_stamp(clock: u64, stamp: Stamp, until: u64) -> u64
-    ensures { λ r. ⌜ (r ≤ until) × Misses clock stamp r ⌝ }
+    ensures { λ r. ⌜ (r ≤ until) × NotHappeningUntil clock stamp r ⌝ }
 {
     match stamp {
         Stamp::Never => until,
@@ -160,19 +163,19 @@ fn before_stamp(clock: u64, stamp: Stamp, until: u64) -> u64
     }
 }
 
-// While a request is pending others merge into it, so only the alarm counts; 0 where the machine is not silent.
-fn alarm_until(silent: bool, clock: u64, alarm: Stamp) -> u64
-    ensures { λ r. ⌜ (r ≤ lastClock) × Misses clock alarm r × (silent ≡ false → r ≡ 0) ⌝ }
+// While a request is pending others merge into it, so only the alarm counts; 0 where interrupts are not masked.
+fn alarm_until(masked: bool, clock: u64, alarm: Stamp) -> u64
+    ensures { λ r. ⌜ (r ≤ lastClock) × NotHappeningUntil clock alarm r × (masked ≡ false → r ≡ 0) ⌝ }
 {
-    if silent {
-        return before_stamp(clock, alarm, 0x4000_0000_0000_0000);
+    if masked {
+        return before_stamp(clock, alarm, LAST_CLOCK);
     }
     0
 }
 
 // A clock value up to which time only goes on and no interrupt is due, at most 2^62; 0 where there is none.
-pub fn still_until(halted: bool, silent: bool, t: Time, stamps: &[u64], place: usize) -> u64
-    ensures { λ r. ⌜ (timetable (now (stamps .entry)) ≡ true → RightPlace (now (stamps .entry)) (t .clock) place → Still (now (stamps .entry)) silent t r × (halted ≡ true → r ≡ 0)) ⌝ }
+pub fn no_event_until(halted: bool, masked: bool, t: Time, stamps: &[u64], upcoming: usize) -> u64
+    ensures { λ r. ⌜ ((L : Layout) → timetable (now (stamps .entry)) ≡ true → IsUpcoming (now (stamps .entry)) (t .clock) upcoming → NoEventUntil (settingOf L (now (stamps .entry))) masked t r × (halted ≡ true → r ≡ 0)) ⌝ }
 {
     let slot = t.slot;
     let alarm = t.alarm;
@@ -180,10 +183,10 @@ pub fn still_until(halted: bool, silent: bool, t: Time, stamps: &[u64], place: u
         return 0;
     }
     match slot {
-        Stamp::At(_) => alarm_until(silent, t.clock, alarm),
+        Stamp::At(_) => alarm_until(masked, t.clock, alarm),
         Stamp::Never => {
-            let until = before_stamp(t.clock, alarm, 0x4000_0000_0000_0000);
-            before_stamp(t.clock, stamp_at(stamps, place), until)
+            let until = before_stamp(t.clock, alarm, LAST_CLOCK);
+            before_stamp(t.clock, stamp_at(stamps, upcoming), until)
         }
     }
 }
@@ -200,7 +203,7 @@ pub fn emptied(t: Time) -> Time
 
 // OUT of w: the alarm is set to clock + w, replacing any; 0 clears it.
 pub fn set_alarm(t: Time, w: u16) -> Time
-    ensures { λ r. ⌜ (t .clock ≤ 2 ^ 63 → r ≡ setAlarm w t) ⌝ }
+    ensures { λ r. ⌜ (t .clock ≤ clockRoom → r ≡ setAlarm w t) ⌝ }
 {
     if w == 0 {
         return Time {
@@ -216,7 +219,7 @@ pub fn set_alarm(t: Time, w: u16) -> Time
 
 // What IN gives: the clock's low 16 bits.
 pub fn device_word(t: Time) -> u16
-    ensures { λ r. ⌜ r ≡ deviceWord t ⌝ }
+    ensures { λ r. ⌜ ((S : Setting) → r ≡ deviceWord S t) ⌝ }
 {
     (t.clock % 65536) as u16
 }

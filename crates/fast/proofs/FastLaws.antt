@@ -12,24 +12,25 @@ use Rattle.isa.specs.Cycles.{cyclesOf}
 use Rattle.alu.specs.Status.{gie}
 use Rattle.layout.specs.declared.sections.Layout.{Layout}
 use Rattle.layout.specs.Sections.{inside}
+use Rattle.definition.specs.Setting.{Setting}
 use Rattle.definition.specs.declared.state.Stamp.{Stamp}
 use Rattle.definition.specs.declared.state.Stamp.the-variants.{Never}
 use Rattle.definition.specs.declared.state.State.{State}
 use Rattle.definition.specs.declared.answer.Outcome.the-variants.{Ran}
-use Rattle.definition.specs.State.{isHeld}
+use Rattle.definition.specs.State.{isHeld, world}
 use Rattle.definition.specs.Time.{deviceWord, pass}
 use Rattle.definition.specs.Interrupt.{gives, due, interrupted}
-use Rattle.definition.specs.Step.{alarmed, savedFor, executed, step}
+use Rattle.definition.specs.Step.{alarmed, savedFor, executed, step, judged}
 use Rattle.definition.proofs.instruction.InstructionLaws.{unprivileged}
 use Rattle.definition.proofs.step.GieLaws.{set-gie}
-use Rattle.definition.proofs.step.StepLaws.{judged, bytes, next, Runs, step-runs}
+use Rattle.definition.proofs.step.StepLaws.{bytes, next, Runs, step-runs}
 use Rattle.definition.specs.declared.judge.Judged.{Judged}
 use Rattle.fast.specs.declared.effect.Effect.{Effect}
 use Rattle.definition.specs.Memory.{wordAt}
 use Rattle.definition.specs.Registers.{pc, sr}
 use Rattle.definition.specs.Judge.{judgeFirst, judge}
 use Rattle.fast.specs.Effect.{fetchable}
-use Rattle.clock.specs.Still.{later}
+use Rattle.clock.specs.NoEvent.{later}
 use Rattle.fast.specs.Steps.{affected, putIf}
 use Rattle.definition.proofs.cause.JudgeLaws.{second-fails}
 use Rattle.fast.proofs.FastRows.{Acting}
@@ -49,8 +50,8 @@ afterEffect e m =
       registers = affected e (m .registers);
       previous = pc (m .registers);
       time = later (e .cycles) (m .time);
-      visit = m .visit;
-      saved = savedFor (m .visit) (m .saved);
+      context = m .context;
+      saved = savedFor (m .context) (m .saved);
       halted = false;
     }
 
@@ -59,52 +60,52 @@ none-due : (m : State) → m .time .slot ≡ Never → due m ≡ Never
 unfolding due
 none-due m e = choose (λ (z : Stamp). z ≡ Never) _ (λ h. e) (λ h. refl)
 
--- and none of a silent machine
-silent-due : (m : State) → gie (sr (m .registers)) ≡ false → due m ≡ Never
+-- and none of a masked machine
+masked-due : (m : State) → gie (sr (m .registers)) ≡ false → due m ≡ Never
 unfolding due
-silent-due m e = if-false _ _ _ e
+masked-due m e = if-false _ _ _ e
 
-module _ (L : Layout) (stamps : List ℕ) (m : State) (mem : List ℕ) (running : m .halted ≡ false) where
-  module _ (b : Begun) (x y : ℕ) (e : Effect) (a : Acting L (isHeld (m .visit)) (m .registers) mem b x y e)
-      (judging : judged L m mem ≡ judgeFirst L (isHeld (m .visit)) (m .registers) mem b)
-      (still : pass stamps (e .cycles) (m .time) ≡ later (e .cycles) (m .time)) (silent : Bool)
-      (hushed : silent ≡ true → gie (sr (m .registers)) ≡ false) (empty : silent ≡ false → m .time .slot ≡ Never) where
-    -- a silent machine stays so
-    pub acting-hushed : silent ≡ true → gie (sr (afterEffect e m .registers)) ≡ false
-    acting-hushed h =
-        set-gie false _ 2 _ (λ k. a .quiet ∙ hushed h)
-        (set-gie false _ (e .number) _ (λ k. absurd (a .general k)) (set-gie false (m .registers) 0 _ (λ k. absurd (omega arith)) (hushed h)))
+module _ (S : Setting) (m : State) (mem : List ℕ) (running : m .halted ≡ false) where
+  module _ (b : Begun) (x y : ℕ) (e : Effect) (a : Acting (S .layout) (isHeld (m .context)) (m .registers) mem b x y e)
+      (judging : judged S (world m mem) ≡ judgeFirst (S .layout) (isHeld (m .context)) (m .registers) mem b)
+      (still : pass S (e .cycles) (m .time) ≡ later (e .cycles) (m .time)) (masked : Bool)
+      (gieClear : masked ≡ true → gie (sr (m .registers)) ≡ false) (empty : masked ≡ false → m .time .slot ≡ Never) where
+    -- a masked machine stays so
+    pub acting-gie-clear : masked ≡ true → gie (sr (afterEffect e m .registers)) ≡ false
+    acting-gie-clear h =
+        set-gie false _ 2 _ (λ k. a .gieKept ∙ gieClear h)
+        (set-gie false _ (e .number) _ (λ k. absurd (a .general k)) (set-gie false (m .registers) 0 _ (λ k. absurd (omega arith)) (gieClear h)))
 
     acting-due : due (afterEffect e m) ≡ Never
-    acting-due = cases silent (λ h. silent-due (afterEffect e m) (acting-hushed h)) (λ h. none-due (afterEffect e m) (empty h))
+    acting-due = cases masked (λ h. masked-due (afterEffect e m) (acting-gie-clear h)) (λ h. none-due (afterEffect e m) (empty h))
 
-    acting-time : alarmed (m .registers) (a .instruction) (pass stamps (cyclesOf (a .instruction)) (m .time))
+    acting-time : alarmed (m .registers) (a .instruction) (pass S (cyclesOf (a .instruction)) (m .time))
         ≡ later (e .cycles) (m .time)
     acting-time =
         unprivileged (m .registers) _ (a .instruction) (a .unbarred) .1
-        ∙ ap (λ (n : ℕ). pass stamps n (m .time)) (a .takes) ∙ still
+        ∙ ap (λ (n : ℕ). pass S n (m .time)) (a .takes) ∙ still
 
-    acting-next : next L stamps m mem (a .instruction) ≡ afterEffect e m
+    acting-next : next S m mem (a .instruction) ≡ afterEffect e m
     unfolding executed
     acting-next =
         rw (
-          a .sets (inside L (pc (m .registers))) (deviceWord (m .time)),
+          a .sets (inside (S .layout) (pc (m .registers))) (deviceWord S (m .time)),
           acting-time,
           unprivileged (m .registers) (m .time) (a .instruction) (a .unbarred) .0,
         )
 
-    pub acting-step : step L stamps m mem ≡ gives (afterEffect e m) (putIf (e .puts) mem y x) Ran
+    pub acting-step : step S m mem ≡ gives (afterEffect e m) (putIf (e .puts) mem y x) Ran
     unfolding interrupted
     acting-step =
-        let r : Runs L stamps m mem (a .instruction) =
+        let r : Runs S m mem (a .instruction) =
         record {
           acting = judging ∙ a .acts;
           staying = second-fails _ _ (a .other);
           going = unprivileged (m .registers) (m .time) (a .instruction) (a .unbarred) .0;
         } in
-        step-runs L stamps m mem running (a .instruction) r
-        ∙ ap (λ (z : State). interrupted L stamps (inside L (pc (m .registers))) Ran z (bytes m mem (a .instruction)) (due z))
+        step-runs S m mem running (a .instruction) r
+        ∙ ap (λ (z : State). interrupted S (inside (S .layout) (pc (m .registers))) Ran z (bytes m mem (a .instruction)) (due z))
         acting-next
-        ∙ ap (interrupted L stamps (inside L (pc (m .registers))) Ran (afterEffect e m) (bytes m mem (a .instruction)))
+        ∙ ap (interrupted S (inside (S .layout) (pc (m .registers))) Ran (afterEffect e m) (bytes m mem (a .instruction)))
         acting-due
         ∙ ap (λ (z : List ℕ). gives (afterEffect e m) z Ran) (a .puts)

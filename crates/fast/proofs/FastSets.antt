@@ -31,8 +31,8 @@ status-set rs n v h = register-set (λ (w : ℕ). w ≡ sr rs) rs n 2 v (λ e. a
 
 module _ (rs : List ℕ) (to : ℕ) where
   -- pc alone is set
-  pub led : set rs 0 to ≡ set (set (set rs 0 to) 0 to) 2 (sr rs)
-  led =
+  pub pc-set : set rs 0 to ≡ set (set (set rs 0 to) 0 to) 2 (sr rs)
+  pc-set =
       sym (set-twice rs 0 to to)
       ∙ sym (set-kept _ 2 (sr rs) (status-set _ 0 to (λ e. absurd (omega arith)) ∙ status-set rs 0 to (λ e. absurd (omega arith))))
 

@@ -3,3 +3,4 @@ pub mod FastRows
 pub mod FastWords
 pub mod FastLaws
 pub mod FastSteps
+pub mod FastTable

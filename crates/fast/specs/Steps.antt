@@ -6,18 +6,20 @@ use Prim.Native.Nat.{ℕ, _+_, _/_, _%_, _≤_}
 use lib.Dec.{eqb}
 use lib.ListN.{getD, set}
 use Rattle.base.specs.Test.{if_then_else_}
+use Rattle.base.specs.Limits.{lastClock}
 use Rattle.layout.specs.declared.sections.Layout.{Layout}
-use Rattle.definition.specs.declared.state.Visit.{Visit}
+use Rattle.definition.specs.Setting.{Setting}
+use Rattle.definition.specs.declared.state.SavedContext.{SavedContext}
 use Rattle.definition.specs.declared.answer.Outcome.the-variants.{Ran}
 use Rattle.fast.specs.declared.effect.Effect.{Effect}
-use Rattle.fast.specs.declared.effect.Fast.{Fast}
-use Rattle.fast.specs.declared.effect.Fast.the-variants.{Does}
+use Rattle.fast.specs.declared.effect.Speed.{Speed}
+use Rattle.fast.specs.declared.effect.Speed.the-variants.{Fast}
 use Rattle.definition.specs.Memory.{wordAt, putWord}
 use Rattle.definition.specs.State.{World}
 use Rattle.definition.specs.Interrupt.{gives}
 use Rattle.definition.specs.Step.{savedFor}
-use Rattle.definition.specs.Run.{lastClock, stepOf}
-use Rattle.fast.specs.Effect.{fetchable, fast}
+use Rattle.definition.specs.Run.{stepOf}
+use Rattle.fast.specs.Effect.{fetchable, fastEffect}
 
 -- the registers that an effect sets: pc, one more, the status
 abbrev pub affected : Effect → List ℕ → List ℕ
@@ -39,9 +41,9 @@ abbrev pub fastState : List ℕ → ℕ → ℕ → List ℕ → FastState
 fastState registers previous clock memory = record { registers = registers; previous = previous; clock = clock; memory = memory }
 
 -- what the first word w at pc does
-abbrev pub fastAt : Layout → FastState → ℕ → Fast
+abbrev pub fastAt : Layout → FastState → ℕ → Speed
 fastAt L s w =
-    fast (getD (s .registers) 0 0) (getD (s .registers) 2 0) L (s .memory)
+    fastEffect (getD (s .registers) 0 0) (getD (s .registers) 2 0) L (s .memory)
     (getD (s .registers) (w / 256 % 16) 0) (getD (s .registers) (w % 16) 0) w
 
 -- the state after an effect of the first word w: a word is put, registers are set
@@ -51,21 +53,25 @@ applied e w s =
     (s .clock + e .cycles)
     (putIf (e .puts) (s .memory) (getD (s .registers) (w % 16) 0) (getD (s .registers) (w / 256 % 16) 0))
 
+-- no fast step takes more cycles: the most that an instruction takes
+abbrev pub mostFastCycles : ℕ
+mostFastCycles = 5
+
 module _ (L : Layout) (held : Bool) (until : ℕ) where
-  -- k fast steps, each begun 5 cycles or more before a clock value, lead from one such state to another
+  -- k fast steps, each begun early enough to be over at a clock value, lead from one such state to another
   pub data FastSteps (from : FastState) : ℕ → FastState → Type 0 where
     noStep : FastSteps from 0 from
-    oneMore : (k n : ℕ) (s next : FastState) (w : ℕ) (e : Effect) → FastSteps from k s → s .clock + 5 ≤ until
+    oneMore : (k n : ℕ) (s next : FastState) (w : ℕ) (e : Effect) → FastSteps from k s → s .clock + mostFastCycles ≤ until
         → fetchable L held (s .previous) (getD (s .registers) 0 0) ≡ true → w ≡ wordAt (s .memory) (getD (s .registers) 0 0)
-        → fastAt L s w ≡ Does e → next ≡ applied e w s → n ≡ k + 1 → FastSteps from n next
+        → fastAt L s w ≡ Fast e → next ≡ applied e w s → n ≡ k + 1 → FastSteps from n next
 
-module _ (L : Layout) (stamps : List ℕ) where
+module _ (S : Setting) where
   -- k steps that only ran lead from one world to another, each from a machine that goes on
-  pub data Leads (from : World) : ℕ → World → Type 0 where
-    none : Leads from 0 from
-    on : (k n : ℕ) (w next : World) → Leads from k w → w .machine .halted ≡ false → w .machine .time .clock ≤ lastClock
-        → stepOf L stamps w ≡ gives (next .machine) (next .memory) Ran → n ≡ k + 1 → Leads from n next
+  pub data RanSteps (from : World) : ℕ → World → Type 0 where
+    none : RanSteps from 0 from
+    on : (k n : ℕ) (w next : World) → RanSteps from k w → w .state .halted ≡ false → w .state .time .clock ≤ lastClock
+        → stepOf S w ≡ gives (next .state) (next .memory) Ran → n ≡ k + 1 → RanSteps from n next
 
 -- the saved copy after so many steps that only ran
-unfoldable pub savedAfter : ℕ → Visit → List ℕ → List ℕ
-savedAfter steps visit saved = if eqb steps 0 then saved else savedFor visit saved
+unfoldable pub savedAfter : ℕ → SavedContext → List ℕ → List ℕ
+savedAfter steps context saved = if eqb steps 0 then saved else savedFor context saved

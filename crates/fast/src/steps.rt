@@ -1,20 +1,29 @@
 // Fast steps in a row. Registers are changed where they lie.
 ghost use mathlib.Core.Path.{_≡_};
-ghost use Prim.Native.Nat.{_≤_, _^_};
+ghost use Prim.Native.Nat.{_≤_};
 ghost use lib.ListN.{length};
-ghost use Rattle.definition.specs.Run.{lastClock};
+ghost use Rattle.base.specs.Limits.{memoryBytes, lastClock};
+ghost use Rattle.clock.specs.Upcoming.{clockRoom};
 ghost use Rattle.fast.specs.Effect.{fetchable};
 ghost use Rattle.fast.specs.Steps.{putIf, fastState, FastSteps};
-use crate::effect::Fast;
+use crate::effect::Speed;
 use crate::effect::fast_effect;
 use act::memory::put_word;
 use act::memory::word_at;
+use base::limits::LAST_CLOCK;
+use base::limits::MEMORY_BYTES;
 use base::test::both;
 use layout::access::Right;
 use layout::sections::Layout;
 
+// No fast step takes more cycles: the most that an instruction takes.
+const MOST_FAST_CYCLES: u64 = 5;
+
+// A clock value from which there is room for a step in 64 bits: 2^63.
+const CLOCK_ROOM: u64 = 0x8000_0000_0000_0000;
+
 // How far fast steps went: the previous address and the clock after them, and how many they were.
-pub struct Went {
+pub struct FastProgress {
     pub previous: u16,
     pub clock: u64,
     pub steps: u64,
@@ -39,7 +48,7 @@ fn put_if(puts: bool, mem: &mut [u8], a: u16, w: u16)
     }
 }
 
-// Fast steps, as many as there are and as are left, none of which begins past the clock value `until` less 5.
+// Fast steps, as many as there are and as are left, each begun early enough to be over at the clock value `until`.
 fn fast_loop(
     registers: &mut [u16; 16],
     previous: u16,
@@ -49,9 +58,9 @@ fn fast_loop(
     layout: Layout,
     until: u64,
     left: u64,
-) -> Went
-    requires { ⌜ length (now mem) ≡ 65536 ⌝ }
-    requires { ⌜ (clock ≤ 2 ^ 63) × (until ≤ lastClock) ⌝ }
+) -> FastProgress
+    requires { ⌜ length (now mem) ≡ memoryBytes ⌝ }
+    requires { ⌜ (clock ≤ clockRoom) × (until ≤ lastClock) ⌝ }
     ensures { λ r. ⌜ FastSteps layout held until (fastState (now (registers .entry)) previous clock (now (mem .entry))) (r .steps) (fastState (now (registers .exit)) (r .previous) (r .clock) (now (mem .exit))) ⌝ }
     ensures { λ r. ⌜ r .steps ≤ left ⌝ }
 {
@@ -59,7 +68,7 @@ fn fast_loop(
     let mut time = clock;
     let mut steps: u64 = 0;
     while steps < left {
-        if until < time + 5 {
+        if until < time + MOST_FAST_CYCLES {
             break;
         }
         let pc = registers[0];
@@ -69,7 +78,7 @@ fn fast_loop(
         let w = word_at(mem, pc);
         let x = registers[(w / 256 % 16) as usize];
         let y = registers[(w % 16) as usize];
-        let Fast::Does(e) = fast_effect(pc, registers[2], layout, mem, x, y, w) else {
+        let Speed::Fast(e) = fast_effect(pc, registers[2], layout, mem, x, y, w) else {
             break;
         };
         let n = (e.number % 16) as usize;
@@ -81,7 +90,7 @@ fn fast_loop(
         time += e.cycles;
         steps += 1;
     }
-    Went {
+    FastProgress {
         previous: last,
         clock: time,
         steps: steps,
@@ -98,18 +107,18 @@ pub fn fast_steps(
     layout: Layout,
     until: u64,
     left: u64,
-) -> Went
+) -> FastProgress
     ensures { λ r. ⌜ FastSteps layout held until (fastState (now (registers .entry)) previous clock (now (mem .entry))) (r .steps) (fastState (now (registers .exit)) (r .previous) (r .clock) (now (mem .exit))) ⌝ }
     ensures { λ r. ⌜ r .steps ≤ left ⌝ }
 {
-    if mem.len() == 65536 {
-        if clock <= 0x8000_0000_0000_0000 {
-            if until <= 0x4000_0000_0000_0000 {
+    if mem.len() == MEMORY_BYTES {
+        if clock <= CLOCK_ROOM {
+            if until <= LAST_CLOCK {
                 return fast_loop(registers, previous, clock, held, mem, layout, until, left);
             }
         }
     }
-    Went {
+    FastProgress {
         previous: previous,
         clock: clock,
         steps: 0,

@@ -1,1 +1,1 @@
-pub mod Moved
+pub mod StepResult

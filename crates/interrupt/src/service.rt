@@ -3,12 +3,14 @@ ghost use mathlib.Core.Path.{_≡_};
 ghost use Prim.Native.Nat.{_+_, _≤_};
 ghost use mathlib.Core.List.{[]};
 ghost use lib.ListN.{set};
-ghost use Rattle.definition.specs.State.{resetAddress, fresh};
+ghost use Rattle.layout.specs.declared.sections.Layout.{Layout as LAYOUT};
+ghost use Rattle.definition.specs.Setting.{settingOf};
+ghost use Rattle.definition.specs.State.{resetAddress, fromVector, resetState};
 ghost use Rattle.definition.specs.declared.state.Stamp.the-variants.{At as AT};
 ghost use Rattle.definition.specs.declared.answer.Outcome.the-variants.{Ran as RAN};
-ghost use Rattle.interrupt.specs.Moved.{moved};
-ghost use Rattle.definition.specs.Interrupt.{serving, ageOf, due, reset, plain, padded, interrupted, chained, back, resumed};
-ghost use Rattle.clock.specs.Place.{Ready};
+ghost use Rattle.interrupt.specs.StepResult.{stepResult};
+ghost use Rattle.definition.specs.Interrupt.{ageOf, due, reset, plain, padded, interrupted, chained, back, resumed};
+ghost use Rattle.clock.specs.Upcoming.{CanPass};
 use act::memory::put_word;
 use act::memory::word_at;
 use act::registers::cleared_registers;
@@ -23,15 +25,15 @@ use clock::time::emptied;
 use clock::time::wait;
 use definition::answer::Cause;
 use definition::answer::Outcome;
+use definition::state::SavedContext;
 use definition::state::Stamp;
 use definition::state::State;
 use definition::state::Time;
-use definition::state::Visit;
 use layout::sections::Layout;
 
 // What a step makes: the state after it and its outcome. Memory is written where it lies.
-pub struct Moved {
-    pub machine: State,
+pub struct StepResult {
+    pub state: State,
     pub outcome: Outcome,
 }
 
@@ -42,25 +44,25 @@ pub fn reset_address(mem: &[u8]) -> u16
     drop_bit_0(word_at(mem, 0xfffe))
 }
 
-// A service starts: the previous address is FFFE.
-fn serving_machine(registers: [u16; 16], time: Time, visit: Visit, saved: [u16; 16]) -> State
-    ensures { λ r. ⌜ r ≡ serving registers time visit saved ⌝ }
+// A machine whose previous address is FFFE: at the start, after a reset, and once a service starts.
+fn from_vector(registers: [u16; 16], time: Time, context: SavedContext, saved: [u16; 16]) -> State
+    ensures { λ r. ⌜ r ≡ fromVector registers time context saved ⌝ }
 {
     State {
         registers: registers,
         previous: 0xfffe,
         time: time,
-        visit: visit,
+        context: context,
         saved: saved,
         halted: false,
     }
 }
 
-// A machine whose previous instruction is none, with nothing held.
-pub fn fresh_machine(registers: [u16; 16], time: Time) -> State
-    ensures { λ r. ⌜ r ≡ fresh registers time ⌝ }
+// At the start and after a reset none is held.
+pub fn reset_state(registers: [u16; 16], time: Time) -> State
+    ensures { λ r. ⌜ r ≡ resetState registers time ⌝ }
 {
-    serving_machine(registers, time, Visit::Free, zero_registers())
+    from_vector(registers, time, SavedContext::Unheld, zero_registers())
 }
 
 // Clock minus stamp, at most 6 counted.
@@ -90,13 +92,13 @@ pub fn due_stamp(m: State) -> Stamp
 }
 
 // Reset: 4 cycles pass; then the slot empties, a held visit is dropped, registers become 0 but pc.
-pub fn reset(m: State, mem: &[u8], stamps: &[u64], place: usize, cause: Cause) -> Moved
-    ensures { λ r. ⌜ (Ready (now (stamps .entry)) (m .time .clock) place 4 → r ≡ moved (reset (now (stamps .entry)) cause m (now (mem .entry)))) ⌝ }
+pub fn reset(m: State, mem: &[u8], stamps: &[u64], upcoming: usize, cause: Cause) -> StepResult
+    ensures { λ r. ⌜ ((L : LAYOUT) → CanPass (now (stamps .entry)) (m .time .clock) upcoming 4 → r ≡ stepResult (reset (settingOf L (now (stamps .entry))) cause m (now (mem .entry)))) ⌝ }
 {
     let time = m.time;
     let registers = cleared_registers(reset_address(mem));
-    Moved {
-        machine: fresh_machine(registers, emptied(wait(time, stamps, place, 4))),
+    StepResult {
+        state: reset_state(registers, emptied(wait(time, stamps, upcoming, 4))),
         outcome: Outcome::Reset(cause),
     }
 }
@@ -113,26 +115,26 @@ fn pushed_registers(registers: [u16; 16], sp: u16, service: u16) -> [u16; 16]
 }
 
 // Plain: pc and sr are pushed, 6 cycles pass; a reset where either word is code or data.
-fn plain(m: State, mem: &mut [u8], layout: Layout, stamps: &[u64], place: usize) -> Moved
-    ensures { λ r. ⌜ (Ready (now (stamps .entry)) (m .time .clock) place 6 → (r ≡ moved (plain layout (now (stamps .entry)) m (now (mem .entry)))) × (now (mem .exit) ≡ plain layout (now (stamps .entry)) m (now (mem .entry)) .memory)) ⌝ }
+fn plain(m: State, mem: &mut [u8], layout: Layout, stamps: &[u64], upcoming: usize) -> StepResult
+    ensures { λ r. ⌜ (CanPass (now (stamps .entry)) (m .time .clock) upcoming 6 → (r ≡ stepResult (plain (settingOf layout (now (stamps .entry))) m (now (mem .entry)))) × (now (mem .exit) ≡ plain (settingOf layout (now (stamps .entry))) m (now (mem .entry)) .memory)) ⌝ }
 {
     let registers = m.registers;
     let saved = m.saved;
-    let visit = m.visit;
+    let context = m.context;
     let time = m.time;
     let high = difference(read_register(registers, 1), 2);
     let low = difference(read_register(registers, 1), 4);
     if !both(layout.outside(high), layout.outside(low)) {
-        return reset(m, mem, stamps, place, Cause::Write);
+        return reset(m, mem, stamps, upcoming, Cause::Write);
     }
     put_word(mem, high, read_register(registers, 0));
     put_word(mem, low, read_register(registers, 2));
-    let after = wait(emptied(time), stamps, place, 6);
-    Moved {
-        machine: serving_machine(
+    let after = wait(emptied(time), stamps, upcoming, 6);
+    StepResult {
+        state: from_vector(
             pushed_registers(registers, low, layout.service),
             after,
-            visit,
+            context,
             saved,
         ),
         outcome: Outcome::Plain,
@@ -140,20 +142,20 @@ fn plain(m: State, mem: &mut [u8], layout: Layout, stamps: &[u64], place: usize)
 }
 
 // Padded: 6 - age cycles pass, the slot empties, 6 more pass; registers, previous address and age are held.
-fn padded(m: State, layout: Layout, stamps: &[u64], place: usize, stamp: u64) -> Moved
-    ensures { λ r. ⌜ (Ready (now (stamps .entry)) (m .time .clock) place 12 → r ≡ moved (padded layout (now (stamps .entry)) stamp m [])) ⌝ }
+fn padded(m: State, layout: Layout, stamps: &[u64], upcoming: usize, stamp: u64) -> StepResult
+    ensures { λ r. ⌜ (CanPass (now (stamps .entry)) (m .time .clock) upcoming 12 → r ≡ stepResult (padded (settingOf layout (now (stamps .entry))) stamp m [])) ⌝ }
 {
     let registers = m.registers;
     let time = m.time;
     let age = age_of(time.clock, stamp);
-    let waited = wait(time, stamps, place, (6 - age) as u64);
-    let after = wait(emptied(waited), stamps, place, 6);
-    let visit = Visit::Held {
+    let waited = wait(time, stamps, upcoming, (6 - age) as u64);
+    let after = wait(emptied(waited), stamps, upcoming, 6);
+    let context = SavedContext::Held {
         previous: m.previous,
         age: age,
     };
-    Moved {
-        machine: serving_machine(cleared_registers(layout.service), after, visit, registers),
+    StepResult {
+        state: from_vector(cleared_registers(layout.service), after, context, registers),
         outcome: Outcome::Padded,
     }
 }
@@ -164,46 +166,53 @@ pub fn serve(
     mem: &mut [u8],
     layout: Layout,
     stamps: &[u64],
-    place: usize,
+    upcoming: usize,
     inside: bool,
     stamp: u64,
-) -> Moved
-    ensures { λ r. ⌜ (Ready (now (stamps .entry)) (m .time .clock) place 12 → (r ≡ moved (interrupted layout (now (stamps .entry)) inside RAN m (now (mem .entry)) (AT stamp))) × (now (mem .exit) ≡ interrupted layout (now (stamps .entry)) inside RAN m (now (mem .entry)) (AT stamp) .memory)) ⌝ }
+) -> StepResult
+    ensures { λ r. ⌜ (CanPass (now (stamps .entry)) (m .time .clock) upcoming 12 → (r ≡ stepResult (interrupted (settingOf layout (now (stamps .entry))) inside RAN m (now (mem .entry)) (AT stamp))) × (now (mem .exit) ≡ interrupted (settingOf layout (now (stamps .entry))) inside RAN m (now (mem .entry)) (AT stamp) .memory)) ⌝ }
 {
     if inside {
-        return padded(m, layout, stamps, place, stamp);
+        return padded(m, layout, stamps, upcoming, stamp);
     }
-    plain(m, mem, layout, stamps, place)
+    plain(m, mem, layout, stamps, upcoming)
 }
 
 // Chained: the slot empties, registers are cleared, 6 cycles pass, the visit stays held.
 fn chained(
     time: Time,
-    visit: Visit,
+    context: SavedContext,
     saved: [u16; 16],
     layout: Layout,
     stamps: &[u64],
-    place: usize,
-) -> Moved
-    ensures { λ r. ⌜ (Ready (now (stamps .entry)) (time .clock) place 6 → r ≡ moved (chained layout (now (stamps .entry)) time visit saved [])) ⌝ }
+    upcoming: usize,
+) -> StepResult
+    ensures { λ r. ⌜ (CanPass (now (stamps .entry)) (time .clock) upcoming 6 → r ≡ stepResult (chained (settingOf layout (now (stamps .entry))) time context saved [])) ⌝ }
 {
-    let after = wait(emptied(time), stamps, place, 6);
-    Moved {
-        machine: serving_machine(cleared_registers(layout.service), after, visit, saved),
+    let after = wait(emptied(time), stamps, upcoming, 6);
+    StepResult {
+        state: from_vector(cleared_registers(layout.service), after, context, saved),
         outcome: Outcome::Chained,
     }
 }
 
 // Back: registers and previous address return, age cycles pass.
-fn back(time: Time, previous: u16, age: u8, saved: [u16; 16], stamps: &[u64], place: usize) -> State
-    ensures { λ r. ⌜ (Ready (now (stamps .entry)) (time .clock) place age → r ≡ back (now (stamps .entry)) time previous age saved) ⌝ }
+fn back(
+    time: Time,
+    previous: u16,
+    age: u8,
+    saved: [u16; 16],
+    stamps: &[u64],
+    upcoming: usize,
+) -> State
+    ensures { λ r. ⌜ ((L : LAYOUT) → CanPass (now (stamps .entry)) (time .clock) upcoming age → r ≡ back (settingOf L (now (stamps .entry))) time previous age saved) ⌝ }
 {
-    let after = wait(time, stamps, place, age as u64);
+    let after = wait(time, stamps, upcoming, age as u64);
     State {
         registers: saved,
         previous: previous,
         time: after,
-        visit: Visit::Free,
+        context: SavedContext::Unheld,
         saved: zero_registers(),
         halted: false,
     }
@@ -217,27 +226,27 @@ pub fn resume(
     saved: [u16; 16],
     layout: Layout,
     stamps: &[u64],
-    place: usize,
-) -> Moved
-    ensures { λ r. ⌜ (Ready (now (stamps .entry)) (time .clock) place (age + 12) → r ≡ moved (resumed layout (now (stamps .entry)) time previous age saved [] (time .slot))) ⌝ }
+    upcoming: usize,
+) -> StepResult
+    ensures { λ r. ⌜ (CanPass (now (stamps .entry)) (time .clock) upcoming (age + 12) → r ≡ stepResult (resumed (settingOf layout (now (stamps .entry))) time previous age saved [] (time .slot))) ⌝ }
 {
     let slot = time.slot;
     match slot {
         Stamp::At(_) => {
-            let visit = Visit::Held {
+            let context = SavedContext::Held {
                 previous: previous,
                 age: age,
             };
-            chained(time, visit, saved, layout, stamps, place)
+            chained(time, context, saved, layout, stamps, upcoming)
         }
         Stamp::Never => {
-            let m = back(time, previous, age, saved, stamps, place);
+            let m = back(time, previous, age, saved, stamps, upcoming);
             match due_stamp(m) {
-                Stamp::Never => Moved {
-                    machine: m,
+                Stamp::Never => StepResult {
+                    state: m,
                     outcome: Outcome::Back,
                 },
-                Stamp::At(stamp) => padded(m, layout, stamps, place, stamp),
+                Stamp::At(stamp) => padded(m, layout, stamps, upcoming, stamp),
             }
         }
     }

@@ -1,89 +1,85 @@
--- What start, step and run hand back, by the verdict on their tests.
-use mathlib.Core.Path.{_≡_, refl, ap}
+-- What start, step and run hand back, by the verdict on their tests. Assumes nothing.
+use mathlib.Core.Path.{_≡_, refl, sym, _∙_, ap, subst}
 use mathlib.Core.Bool.{true, false}
 use mathlib.Core.List.{List, []}
 use Prim.Native.Nat.{ℕ}
 use Rattle.base.specs.declared.refusal.Refusal.{Refusal}
 use Rattle.base.specs.declared.refusal.Refusal.the-variants.{Map}
-use Rattle.base.specs.Refusal.{refusalNumber}
+use Rattle.base.specs.declared.verdict.Verdict.the-variants.{Taken as taken, Refused as refused}
+use Rattle.base.specs.FirstFailure.{firstFailure}
+use Rattle.base.specs.Verdict.{verdict}
 use Rattle.base.proofs.Tests.{if-true, if-false}
-use Rattle.layout.specs.declared.sections.Layout.{Layout}
-use Rattle.machine.specs.declared.answer.Started.{Started}
-use Rattle.machine.specs.declared.answer.Stepped.{Stepped}
-use Rattle.machine.specs.declared.answer.Ran.{Ran}
-use Rattle.definition.specs.declared.answer.StartAnswer.the-variants.{Made as HasStarted, Refused as NotStarted}
-use Rattle.definition.specs.declared.answer.StepAnswer.the-variants.{Made as HasStepped, Refused as NotStepped}
+use Rattle.definition.specs.Setting.{Setting}
+use Rattle.definition.specs.declared.state.State.{State}
+use Rattle.definition.specs.declared.answer.Outcome.{Outcome}
+use Rattle.definition.specs.declared.answer.StartAnswer.the-variants.{Done as HasStarted, Refused as NotStarted}
+use Rattle.definition.specs.declared.answer.StepAnswer.{StepAnswer}
+use Rattle.definition.specs.declared.answer.StepAnswer.the-variants.{Done as HasStepped, Refused as NotStepped}
+use Rattle.definition.specs.declared.answer.RunAnswer.{RunAnswer}
 use Rattle.definition.specs.declared.answer.RunAnswer.the-variants.{Refused as NotRun}
-use Rattle.definition.specs.declared.verdict.Verdict.the-variants.{Taken as taken, Refused as refused}
-use Rattle.interrupt.specs.declared.service.Moved.{Moved}
 use Rattle.definition.specs.Memory.{byteAt, wordAt}
 use Rattle.definition.specs.Registers.{cleared}
 use Rattle.definition.specs.Time.{startTime}
-use Rattle.definition.specs.State.{World, world, resetAddress, fresh, start}
-use Rattle.definition.specs.Run.{stepOf, run}
-use Rattle.definition.specs.Calls.{wholeMemory, verdict, startTests, stepTests, runTests, startCall, stepCall, runCall, stepRefusal, runRefusal, refusedBy, Untouched}
-use Rattle.machine.specs.Answers.{machine, started, stepped, ran, stopped}
-use Rattle.interrupt.proofs.Handed.{Handed}
-use Rattle.definition.proofs.run.CallLaws.{step-judged, step-call, run-call}
-
--- ---- start
+use Rattle.definition.specs.State.{World, world, resetAddress, resetState, start}
+use Rattle.definition.specs.Interrupt.{Step, gives}
+use Rattle.definition.specs.Run.{stepOf}
+use Rattle.definition.specs.Calls.{wholeMemory, startTests, stepTests, runTests, called, runAnswered, startCall}
+use Rattle.definition.specs.Promises.{StartPromise, StepPromise, RunPromise}
+use Rattle.definition.proofs.run.CallLaws.{start-promised, step-promised, run-promised, step-call, run-call}
+use Rattle.act.specs.declared.control.Control.{Control}
+use Rattle.act.specs.Control.{withRegisters, controlOf}
 
 no-word : resetAddress [] ≡ 0
 unfolding resetAddress wordAt byteAt
 no-word = refl
 
 module _ (mem : List ℕ) where
-  pub start-refused : wholeMemory mem ≡ false
-      → (_≡_ {A = Started} (record { machine = machine (fresh (cleared 0) startTime); answer = NotStarted Map }) (started (startCall mem)))
-      × (1 ≡ refusedBy (verdict (startTests mem)))
-  unfolding startCall verdict start
-  start-refused h =
-      let v : verdict (startTests mem) ≡ refused Map = if-false _ _ _ h in
-      (rw (v, no-word), rw v)
+  refused-result : wholeMemory mem ≡ false → called (resetState (cleared 0) startTime) mem (NotStarted Map) ≡ startCall mem
+  unfolding startCall firstFailure start
+  refused-result h = let v : verdict (startTests mem) ≡ refused Map = if-false _ _ _ h in rw (v, no-word)
 
-  pub start-taken : wholeMemory mem ≡ true
-      → (_≡_ {A = Started} (record { machine = machine (fresh (cleared (resetAddress mem)) startTime); answer = HasStarted }) (started (startCall mem)))
-      × (0 ≡ refusedBy (verdict (startTests mem)))
-  unfolding startCall verdict start
-  start-taken h =
-      let v : verdict (startTests mem) ≡ taken = if-true _ _ _ h in
-      (rw v, rw v)
+  taken-result : wholeMemory mem ≡ true → called (resetState (cleared (resetAddress mem)) startTime) mem HasStarted ≡ startCall mem
+  unfolding startCall firstFailure start
+  taken-result h = let v : verdict (startTests mem) ≡ taken = if-true _ _ _ h in rw v
 
-module _ (L : Layout) (stamps : List ℕ) where
-  -- what a step call promises of what it hands back
-  abbrev pub Promised : World → Stepped → List ℕ → Type 0
-  Promised w r bytes =
-      (r ≡ stepped (stepCall L stamps w))
-      × ((bytes ≡ stepCall L stamps w .memory)
-      × ((stepRefusal (r .answer) ≡ refusedBy (verdict (stepTests L stamps w)))
-      × Untouched (stepRefusal (r .answer)) w (world (r .machine .0) bytes)))
+  pub start-refused : wholeMemory mem ≡ false → StartPromise mem (resetState (cleared 0) startTime) (NotStarted Map)
+  start-refused h = start-promised mem _ _ (refused-result h)
 
-  module _ (w : World) where
-    pub step-refused : (r : Refusal) → verdict (runTests L stamps 0 w) ≡ refused r
-        → Promised w (record { machine = machine (w .machine); answer = NotStepped r }) (w .memory)
-    step-refused r e = let s = step-call L stamps w _ e in let v = step-judged L stamps w _ e in (rw s, (rw s, (rw v, λ n. (refl, refl))))
+  pub start-taken : wholeMemory mem ≡ true → StartPromise mem (resetState (cleared (resetAddress mem)) startTime) HasStarted
+  start-taken h = start-promised mem _ _ (taken-result h)
 
-    pub step-taken : verdict (runTests L stamps 0 w) ≡ taken → (m : Moved) (bytes : List ℕ) → Handed m bytes (stepOf L stamps w)
-        → Promised w (record { machine = machine (m .machine); answer = HasStepped (m .outcome) }) bytes
-    step-taken e m bytes h =
-        let s = step-call L stamps w _ e in
-        let v = step-judged L stamps w _ e in
-        (rw (s, h .0), (rw s (h .1), (rw v, λ n. absurd (n refl))))
+-- ---- step and run
 
-    module _ (budget : ℕ) where
-      pub run-refused : (r : Refusal) → verdict (runTests L stamps budget w) ≡ refused r
-          → (_≡_ {A = Ran} (record { machine = machine (w .machine); answer = NotRun r }) (ran (runCall L stamps budget w)))
-          × ((w .memory ≡ runCall L stamps budget w .memory)
-          × ((refusalNumber r ≡ refusedBy (verdict (runTests L stamps budget w)))
-          × Untouched (refusalNumber r) w w))
-      run-refused r e = let s = run-call L stamps w budget _ e in (rw s, (rw s, (rw e, λ n. (refl, refl))))
+module _ (S : Setting) (w : World) where
+  pub step-refused : (r : Refusal) → verdict (stepTests S w) ≡ refused r → StepPromise S w w (NotStepped r)
+  step-refused r e = step-promised S w w (NotStepped r) (sym (step-call S w (refused r) e))
 
-      pub run-taken : verdict (runTests L stamps budget w) ≡ taken → (m : Ran) (bytes : List ℕ)
-          → (m ≡ stopped (run L stamps budget w)) × (bytes ≡ run L stamps budget w .memory)
-          → (m ≡ ran (runCall L stamps budget w))
-          × ((bytes ≡ runCall L stamps budget w .memory)
-          × ((runRefusal (m .answer) ≡ refusedBy (verdict (runTests L stamps budget w)))
-          × Untouched (runRefusal (m .answer)) w (world (m .machine .0) bytes)))
-      run-taken e m bytes h =
-          let s = run-call L stamps w budget _ e in
-          (rw s (h .0), (rw s (h .1), (rw (e, h .0), λ n. absurd (n (ap (λ (x : Ran). runRefusal (x .answer)) (h .0))))))
+  pub step-taken : verdict (stepTests S w) ≡ taken → (m : State) (bytes : List ℕ) (o : Outcome) → gives m bytes o ≡ stepOf S w
+      → StepPromise S w (world m bytes) (HasStepped o)
+  step-taken e m bytes o h =
+      step-promised S w (world m bytes) (HasStepped o)
+      (ap (λ (s : Step). called (s .state) (s .memory) (HasStepped (s .outcome))) h ∙ sym (step-call S w taken e))
+
+  module _ (budget : ℕ) where
+    pub run-refused : (r : Refusal) → verdict (runTests S budget w) ≡ refused r → RunPromise S budget w w (NotRun r)
+    run-refused r e = run-promised S w w budget (NotRun r) (sym (run-call S w (refused r) budget e))
+
+    pub run-taken : verdict (runTests S budget w) ≡ taken → (m : State) (bytes : List ℕ) (answer : RunAnswer)
+        → called m bytes answer ≡ runAnswered S budget w taken → RunPromise S budget w (world m bytes) answer
+    run-taken e m bytes answer h = run-promised S w (world m bytes) budget answer (h ∙ sym (run-call S w taken budget e))
+
+-- what a call leaves of a machine apart, it leaves of it joined
+module _ (S : Setting) (mem bytes rs saved : List ℕ) (m next : State) (c d : Control) (e : c ≡ controlOf m) (f : next ≡ withRegisters rs saved d) where
+  pub step-with-registers : (answer : StepAnswer)
+      → StepPromise S (world (withRegisters (m .registers) (m .saved) c) mem) (world (withRegisters rs saved d) bytes) answer
+      → StepPromise S (world m mem) (world next bytes) answer
+  step-with-registers answer p =
+      subst (λ (z : State). StepPromise S (world m mem) (world z bytes) answer) (sym f)
+      (subst (λ (z : Control). StepPromise S (world (withRegisters (m .registers) (m .saved) z) mem) (world (withRegisters rs saved d) bytes) answer) e p)
+
+  pub run-with-registers : (budget : ℕ) (answer : RunAnswer)
+      → called (withRegisters rs saved d) bytes answer ≡ runAnswered S budget (world (withRegisters (m .registers) (m .saved) c) mem) taken
+      → called next bytes answer ≡ runAnswered S budget (world m mem) taken
+  run-with-registers budget answer h =
+      ap (λ (z : State). called z bytes answer) f ∙ h
+      ∙ ap (λ (z : Control). runAnswered S budget (world (withRegisters (m .registers) (m .saved) z) mem) taken) e

@@ -1,3 +1,2 @@
 -- What no promise to a caller rests on.
-pub mod Lent
-pub mod Turn
+pub mod InPlace

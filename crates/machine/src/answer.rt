@@ -18,7 +18,7 @@ pub struct Stepped {
 }
 
 // The same where the registers are lent: beside the answer what the state has beside them.
-pub struct LentStepped {
+pub struct SteppedInPlace {
     pub control: Control,
     pub answer: StepAnswer,
 }

@@ -1,5 +1,5 @@
 // What callers reach: start, step and run.
 pub mod answer;
 pub mod calls;
-mod lent;
+mod in_place;
 mod run;

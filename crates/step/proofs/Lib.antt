@@ -1,1 +1,1 @@
-pub mod StepHanded
+pub mod StepYields

@@ -1,10 +1,11 @@
 // One step: judged, then acting, then its cycles, then the interrupt.
 ghost use mathlib.Core.Path.{_≡_};
-ghost use Prim.Native.Nat.{_≤_, _^_};
+ghost use Prim.Native.Nat.{_≤_};
+ghost use Rattle.definition.specs.Setting.{settingOf};
 ghost use Rattle.definition.specs.State.{isHeld};
-ghost use Rattle.interrupt.specs.Moved.{moved};
+ghost use Rattle.interrupt.specs.StepResult.{stepResult};
 ghost use Rattle.definition.specs.Step.{alarmed, isHlt, savedFor, executed, ordinary, performed, step};
-ghost use Rattle.clock.specs.Place.{Ready};
+ghost use Rattle.clock.specs.Upcoming.{clockRoom, stepRoom, CanPass};
 use act::instruction::memory_after;
 use act::instruction::registers_after;
 use act::registers::read_register;
@@ -14,11 +15,11 @@ use clock::time::set_alarm;
 use clock::time::wait;
 use definition::answer::Outcome;
 use definition::judge::Judged;
+use definition::state::SavedContext;
 use definition::state::Stamp;
 use definition::state::State;
 use definition::state::Time;
-use definition::state::Visit;
-use interrupt::service::Moved;
+use interrupt::service::StepResult;
 use interrupt::service::due_stamp;
 use interrupt::service::reset;
 use interrupt::service::resume;
@@ -30,7 +31,7 @@ use layout::sections::Layout;
 
 // OUT sets the alarm after its cycles.
 fn alarmed_time(registers: [u16; 16], i: Instruction, t: Time) -> Time
-    ensures { λ r. ⌜ (t .clock ≤ 2 ^ 63 → r ≡ alarmed registers i t) ⌝ }
+    ensures { λ r. ⌜ (t .clock ≤ clockRoom → r ≡ alarmed registers i t) ⌝ }
 {
     match i {
         Instruction::Hlt => t,
@@ -67,12 +68,12 @@ fn is_hlt(i: Instruction) -> bool
 }
 
 // Where nothing is held, the saved copy is handed back zero.
-pub fn saved_for(visit: Visit, saved: [u16; 16]) -> [u16; 16]
-    ensures { λ r. ⌜ r ≡ savedFor visit saved ⌝ }
+pub fn saved_for(context: SavedContext, saved: [u16; 16]) -> [u16; 16]
+    ensures { λ r. ⌜ r ≡ savedFor context saved ⌝ }
 {
-    match visit {
-        Visit::Free => zero_registers(),
-        Visit::Held {
+    match context {
+        SavedContext::Unheld => zero_registers(),
+        SavedContext::Held {
             previous: _,
             age: _,
         } => saved,
@@ -80,12 +81,12 @@ pub fn saved_for(visit: Visit, saved: [u16; 16]) -> [u16; 16]
 }
 
 // A visit is held.
-pub fn is_held(visit: Visit) -> bool
-    ensures { λ r. ⌜ r ≡ isHeld visit ⌝ }
+pub fn is_held(context: SavedContext) -> bool
+    ensures { λ r. ⌜ r ≡ isHeld context ⌝ }
 {
-    match visit {
-        Visit::Free => false,
-        Visit::Held {
+    match context {
+        SavedContext::Unheld => false,
+        SavedContext::Held {
             previous: _,
             age: _,
         } => true,
@@ -98,23 +99,23 @@ fn execute(
     mem: &[u8],
     layout: Layout,
     stamps: &[u64],
-    place: usize,
+    upcoming: usize,
     i: Instruction,
 ) -> State
-    ensures { λ r. ⌜ (Ready (now (stamps .entry)) (m .time .clock) place 5 → r ≡ executed layout (now (stamps .entry)) m (now (mem .entry)) i) ⌝ }
+    ensures { λ r. ⌜ (CanPass (now (stamps .entry)) (m .time .clock) upcoming 5 → r ≡ executed (settingOf layout (now (stamps .entry))) m (now (mem .entry)) i) ⌝ }
 {
     let registers = m.registers;
     let saved = m.saved;
-    let visit = m.visit;
+    let context = m.context;
     let time = m.time;
     let pc = read_register(registers, 0);
-    let after = wait(time, stamps, place, i.cycles() as u64);
+    let after = wait(time, stamps, upcoming, i.cycles() as u64);
     State {
         registers: registers_after(layout.inside(pc), registers, device_word(time), mem, i),
         previous: pc,
         time: alarmed_time(registers, i, after),
-        visit: visit,
-        saved: saved_for(visit, saved),
+        context: context,
+        saved: saved_for(context, saved),
         halted: is_hlt(i),
     }
 }
@@ -125,27 +126,27 @@ fn perform_ordinary(
     mem: &mut [u8],
     layout: Layout,
     stamps: &[u64],
-    place: usize,
+    upcoming: usize,
     i: Instruction,
-) -> Moved
-    ensures { λ r. ⌜ (Ready (now (stamps .entry)) (m .time .clock) place 17 → (r ≡ moved (ordinary layout (now (stamps .entry)) m (now (mem .entry)) i)) × (now (mem .exit) ≡ ordinary layout (now (stamps .entry)) m (now (mem .entry)) i .memory)) ⌝ }
+) -> StepResult
+    ensures { λ r. ⌜ (CanPass (now (stamps .entry)) (m .time .clock) upcoming 17 → (r ≡ stepResult (ordinary (settingOf layout (now (stamps .entry))) m (now (mem .entry)) i)) × (now (mem .exit) ≡ ordinary (settingOf layout (now (stamps .entry))) m (now (mem .entry)) i .memory)) ⌝ }
 {
     let registers = m.registers;
-    let next = execute(m, mem, layout, stamps, place, i);
+    let next = execute(m, mem, layout, stamps, upcoming, i);
     memory_after(registers, mem, i);
     if next.halted {
-        return Moved {
-            machine: next,
+        return StepResult {
+            state: next,
             outcome: Outcome::Halted,
         };
     }
     let inside = layout.inside(read_register(registers, 0));
     match due_stamp(next) {
-        Stamp::Never => Moved {
-            machine: next,
+        Stamp::Never => StepResult {
+            state: next,
             outcome: Outcome::Ran,
         },
-        Stamp::At(stamp) => serve(next, mem, layout, stamps, place, inside, stamp),
+        Stamp::At(stamp) => serve(next, mem, layout, stamps, upcoming, inside, stamp),
     }
 }
 
@@ -155,40 +156,46 @@ fn perform(
     mem: &mut [u8],
     layout: Layout,
     stamps: &[u64],
-    place: usize,
+    upcoming: usize,
     i: Instruction,
-) -> Moved
-    ensures { λ r. ⌜ (Ready (now (stamps .entry)) (m .time .clock) place 300 → (r ≡ moved (performed layout (now (stamps .entry)) m (now (mem .entry)) (m .visit) i)) × (now (mem .exit) ≡ performed layout (now (stamps .entry)) m (now (mem .entry)) (m .visit) i .memory)) ⌝ }
+) -> StepResult
+    ensures { λ r. ⌜ (CanPass (now (stamps .entry)) (m .time .clock) upcoming stepRoom → (r ≡ stepResult (performed (settingOf layout (now (stamps .entry))) m (now (mem .entry)) (m .context) i)) × (now (mem .exit) ≡ performed (settingOf layout (now (stamps .entry))) m (now (mem .entry)) (m .context) i .memory)) ⌝ }
 {
     let saved = m.saved;
-    let visit = m.visit;
+    let context = m.context;
     let time = m.time;
-    match visit {
-        Visit::Free => perform_ordinary(m, mem, layout, stamps, place, i),
-        Visit::Held { previous, age } => {
+    match context {
+        SavedContext::Unheld => perform_ordinary(m, mem, layout, stamps, upcoming, i),
+        SavedContext::Held { previous, age } => {
             if is_reti(i) {
-                let after = wait(time, stamps, place, i.cycles() as u64);
-                return resume(after, previous, age, saved, layout, stamps, place);
+                let after = wait(time, stamps, upcoming, i.cycles() as u64);
+                return resume(after, previous, age, saved, layout, stamps, upcoming);
             }
-            perform_ordinary(m, mem, layout, stamps, place, i)
+            perform_ordinary(m, mem, layout, stamps, upcoming, i)
         }
     }
 }
 
 // One step; a halted machine answers "halted" unchanged.
-pub fn take_step(m: State, mem: &mut [u8], layout: Layout, stamps: &[u64], place: usize) -> Moved
-    ensures { λ r. ⌜ (Ready (now (stamps .entry)) (m .time .clock) place 300 → (r ≡ moved (step layout (now (stamps .entry)) m (now (mem .entry)))) × (now (mem .exit) ≡ step layout (now (stamps .entry)) m (now (mem .entry)) .memory)) ⌝ }
+pub fn take_step(
+    m: State,
+    mem: &mut [u8],
+    layout: Layout,
+    stamps: &[u64],
+    upcoming: usize,
+) -> StepResult
+    ensures { λ r. ⌜ (CanPass (now (stamps .entry)) (m .time .clock) upcoming stepRoom → (r ≡ stepResult (step (settingOf layout (now (stamps .entry))) m (now (mem .entry)))) × (now (mem .exit) ≡ step (settingOf layout (now (stamps .entry))) m (now (mem .entry)) .memory)) ⌝ }
 {
     if m.halted {
-        return Moved {
-            machine: m,
+        return StepResult {
+            state: m,
             outcome: Outcome::Halted,
         };
     }
     let registers = m.registers;
-    let visit = m.visit;
-    match judge(layout, is_held(visit), registers, mem, m.previous) {
-        Judged::Faulty(cause) => reset(m, mem, stamps, place, cause),
-        Judged::Acts(i) => perform(m, mem, layout, stamps, place, i),
+    let context = m.context;
+    match judge(layout, is_held(context), registers, mem, m.previous) {
+        Judged::Faulty(cause) => reset(m, mem, stamps, upcoming, cause),
+        Judged::Acts(i) => perform(m, mem, layout, stamps, upcoming, i),
     }
 }

@@ -9,7 +9,7 @@ is-framed-requires : tie.Need-is-framed-requires
 is-framed-requires c κs = search needs
 
 returns : tie.Need-returns
-returns c = simp (c .is-framed .ensures, c .before .before .before .of .ensures)
+returns c stamps = simp (c .is-framed .ensures stamps, c .before .before .before .of .ensures)
 
 pub state-is-framed-spec : {M : Type 1} → statement M
 state-is-framed-spec = tie.close (tie.spec of-requires is-framed-requires returns)

@@ -4,7 +4,7 @@ use native.Mathlib.Omega.{arith}
 use denote.Ref.{now}
 use borrow.Author.Needs.{needs}
 use Rattle.definition.specs.Time.{pass, request}
-use Rattle.clock.proofs.PlaceLaws.{place-earliest}
+use Rattle.clock.proofs.UpcomingLaws.{upcoming-earliest}
 use Rattle.clock.proofs.time.pass.Statement.{statement}
 use Rattle.clock.proofs.time.pass.Tie as tie
 
@@ -35,9 +35,9 @@ small h = omega arith
 
 returns : tie.Need-returns
 unfolding pass request
-returns c = λ room timed right.
+returns c = λ L room timed right.
     let a = c .before .before .before .before .before .before .before .before .args in
-    rw (place-earliest (a .t .clock) (a .t .clock + a .n) (now (a .stamps)) (a .place) timed right)
+    rw (upcoming-earliest (a .t .clock) (a .t .clock + a .n) (now (a .stamps)) (a .upcoming) timed right)
     (simp (
       small room,
       c .before .before .before .before .before .before .wrapping-add-u64 .ensures,

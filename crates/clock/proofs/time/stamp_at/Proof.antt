@@ -1,7 +1,7 @@
 use borrow.Author.Tests.{lt-ltb, le-ltb}
 use borrow.Author.Needs.{needs}
 use Rattle.base.specs.Test.{if_then_else_}
-use Rattle.clock.specs.Place.{stampAt}
+use Rattle.clock.specs.Upcoming.{stampAt}
 use Rattle.clock.proofs.time.stamp_at.Statement.{statement}
 use Rattle.clock.proofs.time.stamp_at.Tie as tie
 

@@ -11,22 +11,28 @@ zero-is-set-requires c κs = search needs
 drop-bit-0-requires : tie.Need-drop-bit-0-requires
 drop-bit-0-requires c κs = search needs
 
-lead-requires : tie.Need-lead-requires
-lead-requires c κs = search needs
+cycles-of-requires : tie.Need-cycles-of-requires
+cycles-of-requires c κs = search needs
+
+set-pc-requires : tie.Need-set-pc-requires
+set-pc-requires c κs = search needs
 
 returns : tie.Need-returns
 unfolding branching if_then_else_
-returns c = simp (c .lead .ensures, c .before .drop-bit-0 .ensures, sym (c .before .before .before .zero-is-set .ensures), c .before .before .if1 .taken)
+returns c = simp (c .set-pc .ensures, c .before .cycles-of .ensures, c .before .before .drop-bit-0 .ensures, sym (c .before .before .before .before .zero-is-set .ensures), c .before .before .before .if1 .taken)
 
-sum-requires : tie.Need-sum-requires
-sum-requires c κs = search needs
+address-past-requires : tie.Need-address-past-requires
+address-past-requires c κs = search needs
 
-lead-requires-2 : tie.Need-lead-requires-2
-lead-requires-2 c κs = search needs
+cycles-of-requires-2 : tie.Need-cycles-of-requires-2
+cycles-of-requires-2 c κs = search needs
+
+set-pc-requires-2 : tie.Need-set-pc-requires-2
+set-pc-requires-2 c κs = search needs
 
 returns-2 : tie.Need-returns-2
 unfolding branching if_then_else_
-returns-2 c = simp (c .lead2 .ensures, c .before .sum .ensures, sym (c .before .before .before .zero-is-set .ensures), c .before .before .if1 .left)
+returns-2 c = simp (c .set-pc2 .ensures, c .before .cycles-of2 .ensures, c .before .before .address-past .ensures, sym (c .before .before .before .before .zero-is-set .ensures), c .before .before .before .if1 .left)
 
 pub fast-branch-spec : {M : Type 1} → statement M
 fast-branch-spec =
@@ -34,8 +40,10 @@ fast-branch-spec =
     (tie.spec
     zero-is-set-requires
     drop-bit-0-requires
-    lead-requires
+    cycles-of-requires
+    set-pc-requires
     returns
-    sum-requires
-    lead-requires-2
+    address-past-requires
+    cycles-of-requires-2
+    set-pc-requires-2
     returns-2)

@@ -16,18 +16,21 @@ drop-bit-0-requires c κs = search needs
 may-requires : tie.Need-may-requires
 may-requires c κs = search needs
 
-sum-requires : tie.Need-sum-requires
-sum-requires c κs = search needs
+address-past-requires : tie.Need-address-past-requires
+address-past-requires c κs = search needs
 
 word-at-requires : tie.Need-word-at-requires
 word-at-requires c κs = search needs
+
+cycles-of-requires : tie.Need-cycles-of-requires
+cycles-of-requires c κs = search needs
 
 set-general-requires : tie.Need-set-general-requires
 set-general-requires c κs = search needs
 
 returns-2 : tie.Need-returns-2
 unfolding loading if_then_else_
-returns-2 c = simp (le-ltb _ _ (c .before .before .before .before .before .before .if1 .left), c .set-general .ensures, c .before .word-at .ensures, c .before .before .sum .ensures, sym (rw (c .before .before .before .before .before .drop-bit-0 .ensures) at (c .before .before .before .before .may .ensures)), c .before .before .before .if2 .taken)
+returns-2 c = simp (le-ltb _ _ (c .before .before .before .before .before .before .before .if1 .left), c .set-general .ensures, c .before .cycles-of .ensures, c .before .before .word-at .ensures, c .before .before .before .address-past .ensures, sym (rw (c .before .before .before .before .before .before .drop-bit-0 .ensures) at (c .before .before .before .before .before .may .ensures)), c .before .before .before .before .if2 .taken)
 
 returns-3 : tie.Need-returns-3
 unfolding loading if_then_else_
@@ -40,8 +43,9 @@ fast-load-spec =
     returns
     drop-bit-0-requires
     may-requires
-    sum-requires
+    address-past-requires
     word-at-requires
+    cycles-of-requires
     set-general-requires
     returns-2
     returns-3)

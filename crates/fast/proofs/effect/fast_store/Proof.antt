@@ -6,8 +6,8 @@ use borrow.Author.Needs.{needs}
 use Rattle.fast.proofs.effect.fast_store.Statement.{statement}
 use Rattle.fast.proofs.effect.fast_store.Tie as tie
 
-sum-requires : tie.Need-sum-requires
-sum-requires c κs = search needs
+second-address-requires : tie.Need-second-address-requires
+second-address-requires c κs = search needs
 
 returns : tie.Need-returns
 unfolding storing if_then_else_
@@ -18,14 +18,14 @@ same-side-requires c κs = search needs
 
 returns-2 : tie.Need-returns-2
 unfolding storing if_then_else_
-returns-2 c = simp (le-ltb _ _ (c .before .before .if1 .left), sym (rw (c .before .before .before .sum .ensures) at (c .before .same-side .ensures)), c .if2 .taken)
+returns-2 c = simp (le-ltb _ _ (c .before .before .if1 .left), sym (rw (c .before .before .before .second-address .ensures) at (c .before .same-side .ensures)), c .if2 .taken)
 
 word-at-requires : tie.Need-word-at-requires
 word-at-requires c κs = search needs
 
 returns-3 : tie.Need-returns-3
 unfolding storing if_then_else_
-returns-3 c = simp (le-ltb _ _ (c .before .before .before .before .if1 .left), sym (rw (c .before .before .before .before .before .sum .ensures) at (c .before .before .before .same-side .ensures)), c .before .before .if2 .left, sym (rw (c .before .before .before .before .before .sum .ensures) at (c .before .word-at .ensures)), ne-eqb _ _ (c .if3 .taken))
+returns-3 c = simp (le-ltb _ _ (c .before .before .before .before .if1 .left), sym (rw (c .before .before .before .before .before .second-address .ensures) at (c .before .before .before .same-side .ensures)), c .before .before .if2 .left, sym (rw (c .before .before .before .before .before .second-address .ensures) at (c .before .word-at .ensures)), ne-eqb _ _ (c .if3 .taken))
 
 drop-bit-0-requires : tie.Need-drop-bit-0-requires
 drop-bit-0-requires c κs = search needs
@@ -33,25 +33,28 @@ drop-bit-0-requires c κs = search needs
 may-requires : tie.Need-may-requires
 may-requires c κs = search needs
 
-sum-requires-2 : tie.Need-sum-requires-2
-sum-requires-2 c κs = search needs
+address-past-requires : tie.Need-address-past-requires
+address-past-requires c κs = search needs
 
-lead-requires : tie.Need-lead-requires
-lead-requires c κs = search needs
+cycles-of-requires : tie.Need-cycles-of-requires
+cycles-of-requires c κs = search needs
+
+set-pc-requires : tie.Need-set-pc-requires
+set-pc-requires c κs = search needs
 
 returns-4 : tie.Need-returns-4
 unfolding storing if_then_else_
-returns-4 c = simp (le-ltb _ _ (c .before .before .before .before .before .before .before .before .before .if1 .left), c .lead .ensures, c .before .sum2 .ensures, sym (rw (c .before .before .before .before .before .before .before .before .before .before .sum .ensures) at (c .before .before .before .before .before .before .before .before .same-side .ensures)), c .before .before .before .before .before .before .before .if2 .left, sym (rw (c .before .before .before .before .before .before .before .before .before .before .sum .ensures) at (c .before .before .before .before .before .before .word-at .ensures)), eq-eqb _ _ (c .before .before .before .before .before .if3 .left), sym (rw (c .before .before .before .before .drop-bit-0 .ensures) at (c .before .before .before .may .ensures)), c .before .before .if4 .taken)
+returns-4 c = simp (le-ltb _ _ (c .before .before .before .before .before .before .before .before .before .before .if1 .left), c .set-pc .ensures, c .before .cycles-of .ensures, c .before .before .address-past .ensures, sym (rw (c .before .before .before .before .before .before .before .before .before .before .before .second-address .ensures) at (c .before .before .before .before .before .before .before .before .before .same-side .ensures)), c .before .before .before .before .before .before .before .before .if2 .left, sym (rw (c .before .before .before .before .before .before .before .before .before .before .before .second-address .ensures) at (c .before .before .before .before .before .before .before .word-at .ensures)), eq-eqb _ _ (c .before .before .before .before .before .before .if3 .left), sym (rw (c .before .before .before .before .before .drop-bit-0 .ensures) at (c .before .before .before .before .may .ensures)), c .before .before .before .if4 .taken)
 
 returns-5 : tie.Need-returns-5
 unfolding storing if_then_else_
-returns-5 c = simp (le-ltb _ _ (c .before .before .before .before .before .before .before .if1 .left), sym (rw (c .before .before .before .before .before .before .before .before .sum .ensures) at (c .before .before .before .before .before .before .same-side .ensures)), c .before .before .before .before .before .if2 .left, sym (rw (c .before .before .before .before .before .before .before .before .sum .ensures) at (c .before .before .before .before .word-at .ensures)), eq-eqb _ _ (c .before .before .before .if3 .left), sym (rw (c .before .before .drop-bit-0 .ensures) at (c .before .may .ensures)), c .if4 .left)
+returns-5 c = simp (le-ltb _ _ (c .before .before .before .before .before .before .before .if1 .left), sym (rw (c .before .before .before .before .before .before .before .before .second-address .ensures) at (c .before .before .before .before .before .before .same-side .ensures)), c .before .before .before .before .before .if2 .left, sym (rw (c .before .before .before .before .before .before .before .before .second-address .ensures) at (c .before .before .before .before .word-at .ensures)), eq-eqb _ _ (c .before .before .before .if3 .left), sym (rw (c .before .before .drop-bit-0 .ensures) at (c .before .may .ensures)), c .if4 .left)
 
 pub fast-store-spec : {M : Type 1} → statement M
 fast-store-spec =
     tie.close
     (tie.spec
-    sum-requires
+    second-address-requires
     returns
     same-side-requires
     returns-2
@@ -59,7 +62,8 @@ fast-store-spec =
     returns-3
     drop-bit-0-requires
     may-requires
-    sum-requires-2
-    lead-requires
+    address-past-requires
+    cycles-of-requires
+    set-pc-requires
     returns-4
     returns-5)

@@ -1,15 +1,16 @@
 use borrow.Author.Tests.{lt-ltb, le-ltb}
 use Rattle.base.specs.Test.{if_then_else_}
-use Rattle.fast.specs.Effect.{setting}
+use Rattle.fast.specs.Effect.{settingRegisterIn}
+use borrow.Author.Needs.{needs}
 use Rattle.fast.proofs.effect.set_general.Statement.{statement}
 use Rattle.fast.proofs.effect.set_general.Tie as tie
 
 returns : tie.Need-returns
-unfolding setting if_then_else_
+unfolding settingRegisterIn if_then_else_
 returns c = simp (lt-ltb _ _ (c .if1 .taken))
 
 returns-2 : tie.Need-returns-2
-unfolding setting if_then_else_
+unfolding settingRegisterIn if_then_else_
 returns-2 c = simp (le-ltb _ _ (c .if1 .left))
 
 pub set-general-spec : {M : Type 1} → statement M

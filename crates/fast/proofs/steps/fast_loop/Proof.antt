@@ -20,7 +20,7 @@ abbrev μ-loop : tie.MeasureT-loop
 loop-holds : tie.Need-loop-holds Inv-loop μ-loop
 loop-holds c =
     let p = c .before .pre in
-    record { size = p .0; leads = noStep; within = omega arith; room = p .1 .0 }
+    record { size = p .0; ran = noStep; within = omega arith; room = p .1 .0 }
 
 add-if1 : tie.Need-add-if1 Inv-loop μ-loop
 add-if1 c = let r = c .before .loop .inv .room in omega arith
@@ -106,13 +106,13 @@ same-length : tie.Need-same-length Inv-loop μ-loop
 same-length c = c .before .loop .inv .size ∙ sym (c .before .before .before .pre .0)
 
 returns : tie.Need-returns Inv-loop μ-loop
-returns c = (c .before .loop .inv .leads, c .before .loop .inv .within)
+returns c = (c .before .loop .inv .ran, c .before .loop .inv .within)
 
 same-length-2 : tie.Need-same-length-2 Inv-loop μ-loop
 same-length-2 c = c .before .before .loop .inv .size ∙ sym (c .before .before .before .before .pre .0)
 
 returns-2 : tie.Need-returns-2 Inv-loop μ-loop
-returns-2 c = (c .before .before .loop .inv .leads, c .before .before .loop .inv .within)
+returns-2 c = (c .before .before .loop .inv .ran, c .before .before .loop .inv .within)
 
 same-length-3 : tie.Need-same-length-3 Inv-loop μ-loop
 same-length-3 c =
@@ -120,7 +120,7 @@ same-length-3 c =
 
 returns-3 : tie.Need-returns-3 Inv-loop μ-loop
 returns-3 c =
-    (c .before .before .before .before .before .loop .inv .leads, c .before .before .before .before .before .loop .inv .within)
+    (c .before .before .before .before .before .loop .inv .ran, c .before .before .before .before .before .loop .inv .within)
 
 same-length-4 : tie.Need-same-length-4 Inv-loop μ-loop
 same-length-4 c =
@@ -128,7 +128,7 @@ same-length-4 c =
 
 returns-4 : tie.Need-returns-4 Inv-loop μ-loop
 returns-4 c =
-    (c .before .before .before .before .before .before .before .before .before .before .before .before .before .before .loop .inv .leads, c .before .before .before .before .before .before .before .before .before .before .before .before .before .before .loop .inv .within)
+    (c .before .before .before .before .before .before .before .before .before .before .before .before .before .before .loop .inv .ran, c .before .before .before .before .before .before .before .before .before .before .before .before .before .before .loop .inv .within)
 
 pub fast-loop-spec : {M : Type 1} → statement M
 fast-loop-spec =

@@ -11,7 +11,7 @@ zero-registers-requires c κs = search needs
 
 returns : tie.Need-returns
 unfolding back
-returns c = λ h. simp (c .zero-registers .ensures, c .before .wait .ensures h)
+returns c = λ L h. simp (c .zero-registers .ensures, c .before .wait .ensures L h)
 
 pub back-spec : {M : Type 1} → statement M
 back-spec = tie.close (tie.spec wait-requires zero-registers-requires returns)

@@ -13,15 +13,15 @@ wait-requires c κs = search needs
 cleared-registers-requires : tie.Need-cleared-registers-requires
 cleared-registers-requires c κs = search needs
 
-serving-machine-requires : tie.Need-serving-machine-requires
-serving-machine-requires c κs = search needs
+from-vector-requires : tie.Need-from-vector-requires
+from-vector-requires c κs = search needs
 
 returns : tie.Need-returns
 unfolding chained emptied
 returns c = λ h. simp (
-  c .serving-machine .ensures,
+  c .from-vector .ensures,
   c .before .cleared-registers .ensures,
-  c .before .before .wait .ensures (rw (c .before .before .before .emptied .ensures) h),
+  c .before .before .wait .ensures (c .before .before .before .before .before .args .layout) (rw (c .before .before .before .emptied .ensures) h),
   c .before .before .before .emptied .ensures,
 )
 
@@ -32,5 +32,5 @@ chained-spec =
     emptied-requires
     wait-requires
     cleared-registers-requires
-    serving-machine-requires
+    from-vector-requires
     returns)

@@ -1,6 +1,6 @@
 use mathlib.Core.Path.{sym}
-use Rattle.definition.specs.Interrupt.{due}
 use Rattle.base.specs.Test.{if_then_else_}
+use Rattle.definition.specs.Interrupt.{due}
 use borrow.Author.Needs.{needs}
 use Rattle.interrupt.proofs.service.due_stamp.Statement.{statement}
 use Rattle.interrupt.proofs.service.due_stamp.Tie as tie

@@ -1,7 +1,7 @@
 use Rattle.definition.specs.Interrupt.{padded}
 use native.Mathlib.Omega.{arith}
 use Rattle.definition.specs.Time.{pass, emptied}
-use Rattle.clock.proofs.PlaceLaws.{ready-later}
+use Rattle.clock.proofs.UpcomingLaws.{can-pass-later}
 use borrow.Author.Needs.{needs}
 use Rattle.interrupt.proofs.service.padded.Statement.{statement}
 use Rattle.interrupt.proofs.service.padded.Tie as tie
@@ -27,17 +27,18 @@ wait-requires-2 c κs = search needs
 cleared-registers-requires : tie.Need-cleared-registers-requires
 cleared-registers-requires c κs = search needs
 
-serving-machine-requires : tie.Need-serving-machine-requires
-serving-machine-requires c κs = search needs
+from-vector-requires : tie.Need-from-vector-requires
+from-vector-requires c κs = search needs
 
 returns : tie.Need-returns
 unfolding padded emptied pass
 returns c = λ h.
+    let L = c .before .before .before .before .before .before .before .before .before .args .layout in
     let age = c .before .before .before .before .before .age-of .ensures in
-    let first = c .before .before .before .before .wait .ensures (ready-later h _ _ (omega arith) (omega arith)) in
-    let second = c .before .before .wait2 .ensures (rw (c .before .before .before .emptied .ensures, first) (ready-later h _ _ (omega arith) (omega arith))) in
+    let first = c .before .before .before .before .wait .ensures L (can-pass-later h _ _ (omega arith) (omega arith)) in
+    let second = c .before .before .wait2 .ensures L (rw (c .before .before .before .emptied .ensures, first) (can-pass-later h _ _ (omega arith) (omega arith))) in
     simp (
-      c .serving-machine .ensures,
+      c .from-vector .ensures,
       c .before .cleared-registers .ensures,
       second,
       c .before .before .before .emptied .ensures,
@@ -56,5 +57,5 @@ padded-spec =
     emptied-requires
     wait-requires-2
     cleared-registers-requires
-    serving-machine-requires
+    from-vector-requires
     returns)

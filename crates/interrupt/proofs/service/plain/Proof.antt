@@ -3,7 +3,7 @@ use Rattle.base.specs.Test.{if_then_else_}
 use Rattle.base.proofs.Tests.{fails, holds}
 use Rattle.definition.specs.Time.{emptied}
 use Rattle.definition.specs.Interrupt.{reset, plain}
-use Rattle.clock.proofs.PlaceLaws.{ready-later}
+use Rattle.clock.proofs.UpcomingLaws.{can-pass-later}
 use borrow.Author.Needs.{needs}
 use Rattle.interrupt.proofs.service.plain.Statement.{statement}
 use Rattle.interrupt.proofs.service.plain.Tie as tie
@@ -47,7 +47,7 @@ returns c = λ h.
       c .before .before .before .before .before .before .before .before .difference .ensures,
       c .before .before .before .before .before .before .before .before .before .read-register .ensures,
     ) at t in
-    (simp (c .reset .ensures (ready-later h _ _ (omega arith) (omega arith)), u), simp u)
+    (simp (c .reset .ensures (c .before .before .before .before .before .before .before .before .before .before .before .before .before .before .before .args .layout) (can-pass-later h _ _ (omega arith) (omega arith)), u), simp u)
 
 read-register-requires-3 : tie.Need-read-register-requires-3
 read-register-requires-3 c κs = search needs
@@ -70,8 +70,8 @@ wait-requires c κs = search needs
 pushed-registers-requires : tie.Need-pushed-registers-requires
 pushed-registers-requires c κs = search needs
 
-serving-machine-requires : tie.Need-serving-machine-requires
-serving-machine-requires c κs = search needs
+from-vector-requires : tie.Need-from-vector-requires
+from-vector-requires c κs = search needs
 
 same-length-2 : tie.Need-same-length-2
 same-length-2 c = search needs
@@ -89,9 +89,9 @@ returns-2 c = λ h.
       c .before .before .before .before .before .before .before .before .before .before .before .before .before .before .before .before .before .before .before .before .before .read-register .ensures,
     ) at t in (
       simp (
-        c .serving-machine .ensures,
+        c .from-vector .ensures,
         c .before .pushed-registers .ensures,
-        c .before .before .wait .ensures (rw (c .before .before .before .emptied .ensures) h),
+        c .before .before .wait .ensures (c .before .before .before .before .before .before .before .before .before .before .before .before .before .before .before .before .before .before .before .before .before .before .before .before .before .before .before .args .layout) (rw (c .before .before .before .emptied .ensures) h),
         c .before .before .before .emptied .ensures,
         c .before .before .before .before .before .before .before .before .before .before .before .before .before .before .before .before .before .before .difference2 .ensures,
         c .before .before .before .before .before .before .before .before .before .before .before .before .before .before .before .before .before .before .before .read-register2 .ensures,
@@ -131,6 +131,6 @@ plain-spec =
     emptied-requires
     wait-requires
     pushed-registers-requires
-    serving-machine-requires
+    from-vector-requires
     same-length-2
     returns-2)

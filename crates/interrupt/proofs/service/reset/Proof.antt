@@ -15,15 +15,15 @@ wait-requires c κs = search needs
 emptied-requires : tie.Need-emptied-requires
 emptied-requires c κs = search needs
 
-fresh-machine-requires : tie.Need-fresh-machine-requires
-fresh-machine-requires c κs = search needs
+reset-state-requires : tie.Need-reset-state-requires
+reset-state-requires c κs = search needs
 
 returns : tie.Need-returns
 unfolding reset
-returns c = λ h. simp (
-  c .fresh-machine .ensures,
+returns c = λ L h. simp (
+  c .reset-state .ensures,
   c .before .emptied .ensures,
-  c .before .before .wait .ensures h,
+  c .before .before .wait .ensures L h,
   c .before .before .before .cleared-registers .ensures,
   c .before .before .before .before .reset-address .ensures,
 )
@@ -36,5 +36,5 @@ reset-spec =
     cleared-registers-requires
     wait-requires
     emptied-requires
-    fresh-machine-requires
+    reset-state-requires
     returns)

@@ -1,10 +1,10 @@
 use mathlib.Core.Path.{sym, _∙_, ap}
 use native.Mathlib.Omega.{arith}
 use Rattle.definition.specs.Time.{pass}
-use Rattle.interrupt.specs.Moved.{moved}
+use Rattle.interrupt.specs.StepResult.{stepResult}
 use Rattle.definition.specs.Interrupt.{interrupted, back}
-use Rattle.clock.proofs.PlaceLaws.{ready-later}
-use Rattle.interrupt.proofs.Handed.{resumed-chains, resumed-back}
+use Rattle.clock.proofs.UpcomingLaws.{can-pass-later}
+use Rattle.interrupt.proofs.Yields.{resumed-chains, resumed-back}
 use borrow.Author.Needs.{needs}
 use Rattle.interrupt.proofs.service.resume.Statement.{statement}
 use Rattle.interrupt.proofs.service.resume.Tie as tie
@@ -34,22 +34,22 @@ padded-requires : tie.Need-padded-requires
 padded-requires c κs = search needs
 
 returns : tie.Need-returns
-returns c = λ h. c .chained .ensures (ready-later h _ _ (omega arith) (omega arith)) ∙ ap moved (sym (resumed-chains _ _ _ _ _ _ _ _ (c .before .enum-told .given .1)))
+returns c = λ h. c .chained .ensures (can-pass-later h _ _ (omega arith) (omega arith)) ∙ ap stepResult (sym (resumed-chains _ _ _ _ _ _ _ (c .before .enum-told .given .1)))
 
 returns-2 : tie.Need-returns-2
 unfolding interrupted
 returns-2 c = λ h.
-    ap moved
-    (sym (resumed-back _ _ _ _ _ _ _ (c .before .before .before .before .enum-told2 .given .1) _ (c .before .before .before .back .ensures (ready-later h _ _ (omega arith) (omega arith))) _
+    ap stepResult
+    (sym (resumed-back _ _ _ _ _ _ (c .before .before .before .before .enum-told2 .given .1) _ (c .before .before .before .back .ensures (c .before .before .before .before .before .before .before .args .layout) (can-pass-later h _ _ (omega arith) (omega arith))) _
     (sym (c .enum-told3 .given .1) ∙ c .before .before .due-stamp .ensures)))
 
 returns-3 : tie.Need-returns-3
 unfolding interrupted back pass
 returns-3 c = λ h.
-    let b = c .before .before .before .before .before .back .ensures (ready-later h _ _ (omega arith) (omega arith)) in
-    c .padded .ensures (rw b (ready-later h _ _ (omega arith) (omega arith)))
-    ∙ ap moved
-    (sym (resumed-back _ _ _ _ _ _ _ (c .before .before .before .before .before .before .enum-told2 .given .1) _ b _
+    let b = c .before .before .before .before .before .back .ensures (c .before .before .before .before .before .before .before .before .before .args .layout) (can-pass-later h _ _ (omega arith) (omega arith)) in
+    c .padded .ensures (rw b (can-pass-later h _ _ (omega arith) (omega arith)))
+    ∙ ap stepResult
+    (sym (resumed-back _ _ _ _ _ _ (c .before .before .before .before .before .before .enum-told2 .given .1) _ b _
     (sym (c .before .before .stamp .given .1) ∙ c .before .before .before .before .due-stamp .ensures)))
 
 pub resume-spec : {M : Type 1} → statement M

@@ -1,6 +1,6 @@
 use Rattle.definition.specs.Interrupt.{padded, interrupted}
 use native.Mathlib.Omega.{arith}
-use Rattle.clock.proofs.PlaceLaws.{ready-later}
+use Rattle.clock.proofs.UpcomingLaws.{can-pass-later}
 use borrow.Author.Needs.{needs}
 use Rattle.interrupt.proofs.service.serve.Statement.{statement}
 use Rattle.interrupt.proofs.service.serve.Tie as tie
@@ -21,7 +21,7 @@ same-length c = search needs
 returns-2 : tie.Need-returns-2
 unfolding interrupted
 returns-2 c = λ h.
-    let p = c .before .before .plain .ensures (ready-later h _ _ (omega arith) (omega arith)) in
+    let p = c .before .before .plain .ensures (can-pass-later h _ _ (omega arith) (omega arith)) in
     (simp (p .0, c .before .before .before .before .if1 .left), simp (p .1, c .before .before .before .before .if1 .left))
 
 pub serve-spec : {M : Type 1} → statement M

@@ -1,6 +1,6 @@
 use mathlib.Core.Path.{sym}
-use Rattle.definition.specs.Judge.{judgeAct}
 use Rattle.base.specs.Test.{if_then_else_}
+use Rattle.definition.specs.Judge.{judgeAct}
 use borrow.Author.Needs.{needs}
 use Rattle.judge.proofs.causes.judge_act.Statement.{statement}
 use Rattle.judge.proofs.causes.judge_act.Tie as tie

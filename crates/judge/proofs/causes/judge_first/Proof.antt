@@ -1,6 +1,6 @@
 use mathlib.Core.Path.{sym, _∙_}
-use Rattle.definition.specs.Judge.{judgeFirst}
 use Rattle.base.specs.Test.{if_then_else_}
+use Rattle.definition.specs.Judge.{judgeFirst}
 use Rattle.definition.proofs.cause.JudgeLaws.{first-found}
 use borrow.Author.Needs.{needs}
 use Rattle.judge.proofs.causes.judge_first.Statement.{statement}

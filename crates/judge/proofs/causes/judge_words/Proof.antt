@@ -1,6 +1,6 @@
 use mathlib.Core.Path.{sym}
-use Rattle.definition.specs.Judge.{judgeWords}
 use Rattle.base.specs.Test.{if_then_else_}
+use Rattle.definition.specs.Judge.{judgeWords}
 use borrow.Author.Needs.{needs}
 use Rattle.judge.proofs.causes.judge_words.Statement.{statement}
 use Rattle.judge.proofs.causes.judge_words.Tie as tie

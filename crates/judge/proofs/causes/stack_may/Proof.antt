@@ -1,6 +1,6 @@
 use mathlib.Core.Path.{sym}
-use Rattle.definition.specs.Judge.{allMay}
 use Rattle.base.specs.Test.{if_then_else_}
+use Rattle.definition.specs.Judge.{allMay}
 use borrow.Author.Needs.{needs}
 use Rattle.judge.proofs.causes.stack_may.Statement.{statement}
 use Rattle.judge.proofs.causes.stack_may.Tie as tie

@@ -1,6 +1,6 @@
 use mathlib.Core.Path.{sym}
-use Rattle.definition.specs.Judge.{allMay}
 use Rattle.base.proofs.Tests.{if-id}
+use Rattle.definition.specs.Judge.{allMay}
 use borrow.Author.Needs.{needs}
 use Rattle.judge.proofs.causes.word_may.Statement.{statement}
 use Rattle.judge.proofs.causes.word_may.Tie as tie

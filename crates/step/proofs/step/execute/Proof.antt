@@ -1,8 +1,10 @@
+use denote.Ref.{now}
+use Rattle.definition.specs.Setting.{settingOf}
 use native.Mathlib.Omega.{arith}
 use Rattle.definition.specs.Time.{pass}
 use Rattle.definition.specs.Step.{executed}
 use Rattle.definition.proofs.instruction.InstructionLaws.{cycles-range}
-use Rattle.clock.proofs.PlaceLaws.{ready-later}
+use Rattle.clock.proofs.UpcomingLaws.{can-pass-later}
 use borrow.Author.Needs.{needs}
 use Rattle.step.proofs.step.execute.Statement.{statement}
 use Rattle.step.proofs.step.execute.Tie as tie
@@ -40,9 +42,10 @@ is-hlt-requires c κs = search needs
 returns : tie.Need-returns
 unfolding executed pass
 returns c = λ h.
-    let k = cycles-range (c .before .before .before .before .before .before .before .before .before .before .before .before .before .before .args .i) .1 in
+    let a = c .before .before .before .before .before .before .before .before .before .before .before .before .before .before .args in
+    let k = cycles-range (a .i) .1 in
     let n = c .before .before .before .before .before .before .before .cycles .ensures in
-    let w = c .before .before .before .before .before .before .wait .ensures (rw n (ready-later h _ _ (omega arith) (omega arith))) in
+    let w = c .before .before .before .before .before .before .wait .ensures (a .layout) (rw n (can-pass-later h _ _ (omega arith) (omega arith))) in
     let o = h .room in
     let t = c .before .before .alarmed-time .ensures (rw (w, n) (omega arith)) in
     simp (
@@ -50,7 +53,7 @@ returns c = λ h.
       c .before .saved-for .ensures,
       t,
       c .before .before .before .registers-after .ensures,
-      c .before .before .before .before .device-word .ensures,
+      c .before .before .before .before .device-word .ensures (settingOf (a .layout) (now (a .stamps))),
       c .before .before .before .before .before .inside .ensures,
       w,
       c .before .before .before .before .before .before .before .cycles .ensures,

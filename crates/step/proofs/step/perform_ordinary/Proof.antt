@@ -2,13 +2,14 @@ use mathlib.Core.Path.{refl, sym, _∙_, ap}
 use native.Mathlib.Omega.{arith}
 use denote.Ref.{now}
 use Rattle.layout.specs.Sections.{inside}
+use Rattle.definition.specs.Setting.{settingOf}
 use Rattle.definition.specs.declared.state.State.{State}
 use Rattle.definition.specs.Interrupt.{interrupted}
 use Rattle.definition.proofs.instruction.InstructionLaws.{cycles-range}
-use Rattle.clock.proofs.PlaceLaws.{ready-later}
+use Rattle.clock.proofs.UpcomingLaws.{can-pass-later}
 use Rattle.definition.proofs.step.StepLaws.{next-clock}
-use Rattle.interrupt.proofs.Handed.{handed}
-use Rattle.step.proofs.StepHanded.{ordinary-halts, ordinary-serves}
+use Rattle.interrupt.proofs.Yields.{yields}
+use Rattle.step.proofs.StepYields.{ordinary-halts, ordinary-serves}
 use borrow.Author.Needs.{needs}
 use Rattle.step.proofs.step.perform_ordinary.Statement.{statement}
 use Rattle.step.proofs.step.perform_ordinary.Tie as tie
@@ -24,7 +25,7 @@ same-length c = search needs
 
 returns : tie.Need-returns
 returns c = λ h.
-    handed (ordinary-halts _ _ _ _ _ _ _ (c .before .before .before .before .before .execute .ensures (ready-later h _ _ (omega arith) (omega arith))) (c .before .before .before .memory-after .ensures) (c .if1 .taken)) (refl, refl)
+    yields (ordinary-halts _ _ _ _ _ _ (c .before .before .before .before .before .execute .ensures (can-pass-later h _ _ (omega arith) (omega arith))) (c .before .before .before .memory-after .ensures) (c .if1 .taken)) (refl, refl)
 
 read-register-requires : tie.Need-read-register-requires
 read-register-requires c κs = search needs
@@ -50,8 +51,8 @@ same-length-2 c = search needs
 returns-2 : tie.Need-returns-2
 unfolding interrupted
 returns-2 c = λ h.
-    handed
-    (ordinary-serves _ _ _ _ _ _ _ (c .before .before .before .before .before .before .before .before .before .before .execute .ensures (ready-later h _ _ (omega arith) (omega arith))) (c .before .before .before .before .before .before .before .before .memory-after .ensures) (c .before .before .before .before .before .if1 .left) _
+    yields
+    (ordinary-serves _ _ _ _ _ _ (c .before .before .before .before .before .before .before .before .before .before .execute .ensures (can-pass-later h _ _ (omega arith) (omega arith))) (c .before .before .before .before .before .before .before .before .memory-after .ensures) (c .before .before .before .before .before .if1 .left) _
     (c .before .before .before .inside .ensures ∙ ap (inside _) (c .before .before .before .before .read-register .ensures)) _
     (sym (c .enum-told .given .1) ∙ c .before .before .due-stamp .ensures))
     (refl, refl)
@@ -63,13 +64,13 @@ returns-3 : tie.Need-returns-3
 returns-3 c = λ h.
     let a = c .before .before .before .before .before .before .before .before .before .before .before .before .before .before .before .before .before .before .before .before .args in
     let k = cycles-range (a .i) .1 in
-    let n = c .before .before .before .before .before .before .before .before .before .before .before .before .before .before .before .execute .ensures (ready-later h _ _ (omega arith) (omega arith)) in
-    let e = ap (λ (m : State). m .time .clock) n ∙ next-clock (a .layout) (now (a .stamps)) (a .m) (now (a .mem)) (a .i) in
-    handed
-    (ordinary-serves _ _ _ _ _ _ _ n (c .before .before .before .before .before .before .before .before .before .before .before .before .before .memory-after .ensures) (c .before .before .before .before .before .before .before .before .before .before .if1 .left) _
+    let n = c .before .before .before .before .before .before .before .before .before .before .before .before .before .before .before .execute .ensures (can-pass-later h _ _ (omega arith) (omega arith)) in
+    let e = ap (λ (m : State). m .time .clock) n ∙ next-clock (settingOf (a .layout) (now (a .stamps))) (a .m) (now (a .mem)) (a .i) in
+    yields
+    (ordinary-serves _ _ _ _ _ _ n (c .before .before .before .before .before .before .before .before .before .before .before .before .before .memory-after .ensures) (c .before .before .before .before .before .before .before .before .before .before .if1 .left) _
     (c .before .before .before .before .before .before .before .before .inside .ensures ∙ ap (inside _) (c .before .before .before .before .before .before .before .before .before .read-register .ensures)) _
     (sym (c .before .before .before .before .before .stamp .given .1) ∙ c .before .before .before .before .before .before .before .due-stamp .ensures))
-    (c .before .before .serve .ensures (ready-later h _ _ (omega arith) (omega arith)))
+    (c .before .before .serve .ensures (can-pass-later h _ _ (omega arith) (omega arith)))
 
 pub perform-ordinary-spec : {M : Type 1} → statement M
 perform-ordinary-spec =

@@ -3,17 +3,17 @@ use native.Mathlib.Omega.{arith}
 use Rattle.base.proofs.Tests.{if-true}
 use Rattle.definition.specs.Interrupt.{reset}
 use Rattle.definition.specs.Step.{step}
-use Rattle.clock.proofs.PlaceLaws.{ready-later}
+use Rattle.clock.proofs.UpcomingLaws.{can-pass-later}
 use Rattle.definition.proofs.step.StepLaws.{step-faulty, step-acts}
-use Rattle.interrupt.proofs.Handed.{handed}
-use Rattle.step.proofs.StepHanded.{judged-by}
+use Rattle.interrupt.proofs.Yields.{yields}
+use Rattle.step.proofs.StepYields.{judged-by}
 use borrow.Author.Needs.{needs}
 use Rattle.step.proofs.step.take_step.Statement.{statement}
 use Rattle.step.proofs.step.take_step.Tie as tie
 
 returns : tie.Need-returns
 unfolding step
-returns c = λ h. handed (if-true _ _ _ (c .if1 .taken)) (refl, refl)
+returns c = λ h. yields (if-true _ _ _ (c .if1 .taken)) (refl, refl)
 
 is-held-requires : tie.Need-is-held-requires
 is-held-requires c κs = search needs
@@ -39,17 +39,17 @@ same-length c = search needs
 returns-2 : tie.Need-returns-2
 unfolding reset
 returns-2 c = λ h.
-    handed
-    (step-faulty _ _ _ _ (c .before .before .before .before .before .before .before .before .before .if1 .left) _ (judged-by _ _ _ _ _ (c .before .before .before .before .before .before .before .before .before .before .before .before .args .m .visit) _ _ (c .before .before .before .before .before .judge .ensures) (c .before .before .before .before .before .before .before .is-held .ensures) (c .before .before .before .cause .given .1)))
-    (c .reset .ensures (ready-later h _ _ (omega arith) (omega arith)), refl)
+    yields
+    (step-faulty _ _ _ (c .before .before .before .before .before .before .before .before .before .if1 .left) _ (judged-by _ _ _ _ _ (c .before .before .before .before .before .before .before .before .before .before .before .before .args .m .context) _ _ (c .before .before .before .before .before .judge .ensures) (c .before .before .before .before .before .before .before .is-held .ensures) (c .before .before .before .cause .given .1)))
+    (c .reset .ensures (c .before .before .before .before .before .before .before .before .before .before .before .before .args .layout) (can-pass-later h _ _ (omega arith) (omega arith)), refl)
 
 same-length-2 : tie.Need-same-length-2
 same-length-2 c = search needs
 
 returns-3 : tie.Need-returns-3
 returns-3 c = λ h.
-    handed
-    (step-acts _ _ _ _ (c .before .before .before .before .before .before .before .before .before .before .before .if1 .left) _ (judged-by _ _ _ _ _ (c .before .before .before .before .before .before .before .before .before .before .before .before .before .before .args .m .visit) _ _ (c .before .before .before .before .before .before .before .judge .ensures) (c .before .before .before .before .before .before .before .before .before .is-held .ensures) (c .before .before .before .before .before .i .given .1)))
+    yields
+    (step-acts _ _ _ (c .before .before .before .before .before .before .before .before .before .before .before .if1 .left) _ (judged-by _ _ _ _ _ (c .before .before .before .before .before .before .before .before .before .before .before .before .before .before .args .m .context) _ _ (c .before .before .before .before .before .before .before .judge .ensures) (c .before .before .before .before .before .before .before .before .before .is-held .ensures) (c .before .before .before .before .before .i .given .1)))
     (c .before .before .perform .ensures h)
 
 pub take-step-spec : {M : Type 1} → statement M
