@@ -3,7 +3,7 @@ use mathlib.Core.Path.{_≡_}
 use mathlib.Core.Bool.{true}
 use mathlib.Core.List.{List}
 use Prim.Native.Nat.{ℕ}
-use Rattle.definition.specs.Calls.{stepRefusal, runRefusal}
+use Rattle.definition.specs.Answers.{runRefusal, stepRefusal}
 use Rattle.numbers.specs.State.{oddFlag, Numbers}
 use Rattle.embed.specs.Calls.{stepOn, runOn}
 

@@ -1,15 +1,14 @@
 // Start, step and run. Each answers 0, or the number of the refusal, which leaves all that is lent as it came.
 ghost use mathlib.Core.Path.{_≡_};
-ghost use Rattle.definition.specs.Calls.{startCall, startRefusal, stepRefusal, runRefusal};
-ghost use Rattle.numbers.specs.State.{numbers, numbersOf};
-ghost use Rattle.embed.specs.Kept.{unlessRefused};
-ghost use Rattle.embed.specs.Calls.{stepOn, runOn, causeOf, stepKind, stepCause, runEnd, runSteps};
+ghost use Rattle.definition.specs.Answers.{causeOf};
+ghost use Rattle.numbers.specs.State.{numbers};
+ghost use Rattle.embed.specs.Calls.{StartReturns, StepReturns, RunReturns};
 use definition::answer::Outcome;
 use definition::answer::RunAnswer;
 use definition::answer::StartAnswer;
 use definition::answer::StepAnswer;
 use machine::calls::Machine;
-use machine::calls::lent_step;
+use machine::calls::step_in_place;
 use numbers::state::control_of;
 use numbers::state::hand_back;
 use numbers::state::hand_control;
@@ -40,15 +39,14 @@ pub extern "C" fn enclave_start(
     time: &mut [u64; 3],
     mem: &[u8],
 ) -> u8
-    ensures number { λ r. ⌜ r ≡ startRefusal (startCall (now (mem .entry)) .answer) ⌝ }
-    ensures machine { λ r. ⌜ numbers (now (registers .exit)) (now (saved .exit)) (now (control .exit)) (now (time .exit)) ≡ unlessRefused r (numbersOf (startCall (now (mem .entry)) .machine)) (numbers (now (registers .entry)) (now (saved .entry)) (now (control .entry)) (now (time .entry))) ⌝ }
+    ensures { λ r. ⌜ StartReturns (now (mem .entry)) (numbers (now (registers .entry)) (now (saved .entry)) (now (control .entry)) (now (time .entry))) (numbers (now (registers .exit)) (now (saved .exit)) (now (control .exit)) (now (time .exit))) r ⌝ }
 {
     let done = Machine::start(mem);
     let m = done.machine.0;
     let answer = done.answer;
     match answer {
         StartAnswer::Refused(refusal) => refusal.number(),
-        StartAnswer::Made => {
+        StartAnswer::Done => {
             hand_back(m, registers, saved, control, time);
             0
         }
@@ -68,19 +66,15 @@ pub extern "C" fn enclave_step(
     kind: &mut u8,
     cause: &mut u8,
 ) -> u8
-    ensures number { λ r. ⌜ r ≡ stepRefusal (stepOn (numbers (now (registers .entry)) (now (saved .entry)) (now (control .entry)) (now (time .entry))) (now (mem .entry)) (now (layout .entry)) (now (stamps .entry)) .answer) ⌝ }
-    ensures memory { λ _. ⌜ now (mem .exit) ≡ stepOn (numbers (now (registers .entry)) (now (saved .entry)) (now (control .entry)) (now (time .entry))) (now (mem .entry)) (now (layout .entry)) (now (stamps .entry)) .memory ⌝ }
-    ensures machine { λ r. ⌜ numbers (now (registers .exit)) (now (saved .exit)) (now (control .exit)) (now (time .exit)) ≡ unlessRefused r (numbersOf (stepOn (numbers (now (registers .entry)) (now (saved .entry)) (now (control .entry)) (now (time .entry))) (now (mem .entry)) (now (layout .entry)) (now (stamps .entry)) .machine)) (numbers (now (registers .entry)) (now (saved .entry)) (now (control .entry)) (now (time .entry))) ⌝ }
-    ensures kind { λ r. ⌜ now (kind .exit) ≡ unlessRefused r (stepKind (stepOn (numbers (now (registers .entry)) (now (saved .entry)) (now (control .entry)) (now (time .entry))) (now (mem .entry)) (now (layout .entry)) (now (stamps .entry)) .answer)) (now (kind .entry)) ⌝ }
-    ensures cause { λ r. ⌜ now (cause .exit) ≡ unlessRefused r (stepCause (stepOn (numbers (now (registers .entry)) (now (saved .entry)) (now (control .entry)) (now (time .entry))) (now (mem .entry)) (now (layout .entry)) (now (stamps .entry)) .answer)) (now (cause .entry)) ⌝ }
+    ensures { λ r. ⌜ StepReturns (now (mem .entry)) (now (layout .entry)) (now (stamps .entry)) (numbers (now (registers .entry)) (now (saved .entry)) (now (control .entry)) (now (time .entry))) (numbers (now (registers .exit)) (now (saved .exit)) (now (control .exit)) (now (time .exit))) (now (mem .exit)) (now (kind .entry)) (now (kind .exit)) (now (cause .entry)) (now (cause .exit)) r ⌝ }
 {
     let rest = control_of(*control, *time);
-    let done = lent_step(rest, registers, saved, mem, layout_of(*layout), stamps);
+    let done = step_in_place(rest, registers, saved, mem, layout_of(*layout), stamps);
     let next = done.control;
     let answer = done.answer;
     match answer {
         StepAnswer::Refused(refusal) => refusal.number(),
-        StepAnswer::Made(outcome) => {
+        StepAnswer::Done(outcome) => {
             hand_control(next, control, time);
             *kind = outcome.letter();
             *cause = cause_of(outcome);
@@ -103,11 +97,7 @@ pub extern "C" fn enclave_run(
     end: &mut u8,
     steps: &mut u64,
 ) -> u8
-    ensures number { λ r. ⌜ r ≡ runRefusal (runOn (numbers (now (registers .entry)) (now (saved .entry)) (now (control .entry)) (now (time .entry))) (now (mem .entry)) (now (layout .entry)) (now (stamps .entry)) budget .answer) ⌝ }
-    ensures memory { λ _. ⌜ now (mem .exit) ≡ runOn (numbers (now (registers .entry)) (now (saved .entry)) (now (control .entry)) (now (time .entry))) (now (mem .entry)) (now (layout .entry)) (now (stamps .entry)) budget .memory ⌝ }
-    ensures machine { λ r. ⌜ numbers (now (registers .exit)) (now (saved .exit)) (now (control .exit)) (now (time .exit)) ≡ unlessRefused r (numbersOf (runOn (numbers (now (registers .entry)) (now (saved .entry)) (now (control .entry)) (now (time .entry))) (now (mem .entry)) (now (layout .entry)) (now (stamps .entry)) budget .machine)) (numbers (now (registers .entry)) (now (saved .entry)) (now (control .entry)) (now (time .entry))) ⌝ }
-    ensures end { λ r. ⌜ now (end .exit) ≡ unlessRefused r (runEnd (runOn (numbers (now (registers .entry)) (now (saved .entry)) (now (control .entry)) (now (time .entry))) (now (mem .entry)) (now (layout .entry)) (now (stamps .entry)) budget .answer)) (now (end .entry)) ⌝ }
-    ensures steps { λ r. ⌜ now (steps .exit) ≡ unlessRefused r (runSteps (runOn (numbers (now (registers .entry)) (now (saved .entry)) (now (control .entry)) (now (time .entry))) (now (mem .entry)) (now (layout .entry)) (now (stamps .entry)) budget .answer)) (now (steps .entry)) ⌝ }
+    ensures { λ r. ⌜ RunReturns (now (mem .entry)) (now (layout .entry)) (now (stamps .entry)) budget (numbers (now (registers .entry)) (now (saved .entry)) (now (control .entry)) (now (time .entry))) (numbers (now (registers .exit)) (now (saved .exit)) (now (control .exit)) (now (time .exit))) (now (mem .exit)) (now (end .entry)) (now (end .exit)) (now (steps .entry)) (now (steps .exit)) r ⌝ }
 {
     let m = Machine(machine_of(*registers, *saved, *control, *time));
     let done = m.run(mem, layout_of(*layout), stamps, budget);
@@ -115,7 +105,7 @@ pub extern "C" fn enclave_run(
     let answer = done.answer;
     match answer {
         RunAnswer::Refused(refusal) => refusal.number(),
-        RunAnswer::Made(ending, made) => {
+        RunAnswer::Done(ending, made) => {
             hand_back(last, registers, saved, control, time);
             *end = ending.letter();
             *steps = made;

@@ -1,9 +1,7 @@
 // The sheet reader.
-ghost use mathlib.Core.Path.{_≡_};
-ghost use lib.Seq.{sets};
-ghost use Rattle.sheet.specs.Sheet.{sheetAnswer, sheetMemory, sheetStamps};
-ghost use Rattle.embed.specs.Kept.{unlessRefused};
-ghost use Rattle.embed.specs.Setup.{sheetRefusal, refusedLine, setLayout, setCount, setBudget};
+ghost use Rattle.embed.specs.Setup.{setupRoom, SheetReturns};
+use base::limits::MEMORY_BYTES;
+use base::limits::MOST_STAMPS;
 use numbers::state::layout_fields;
 use sheet::reader::Answer;
 use sheet::reader::read_sheet;
@@ -14,20 +12,14 @@ use sheet::setup::load_stamps;
 #[no_mangle]
 pub extern "C" fn enclave_read_sheet(
     text: &[u8],
-    mem: &mut [u8; 65536],
-    stamps: &mut [u64; 4096],
+    mem: &mut [u8; MEMORY_BYTES],
+    stamps: &mut [u64; MOST_STAMPS],
     layout: &mut [u16; 5],
     count: &mut u64,
     budget: &mut u64,
     line: &mut u64,
 ) -> u8
-    ensures number { λ r. ⌜ r ≡ sheetRefusal (sheetAnswer (now (text .entry))) ⌝ }
-    ensures memory { λ r. ⌜ now (mem .exit) ≡ unlessRefused r (sheetMemory (now (text .entry))) (now (mem .entry)) ⌝ }
-    ensures stamps { λ r. ⌜ now (stamps .exit) ≡ unlessRefused r (sets (now (stamps .entry)) 0 (sheetStamps (now (text .entry)))) (now (stamps .entry)) ⌝ }
-    ensures layout { λ r. ⌜ now (layout .exit) ≡ unlessRefused r (setLayout (sheetAnswer (now (text .entry)))) (now (layout .entry)) ⌝ }
-    ensures count { λ r. ⌜ now (count .exit) ≡ unlessRefused r (setCount (sheetAnswer (now (text .entry)))) (now (count .entry)) ⌝ }
-    ensures budget { λ r. ⌜ now (budget .exit) ≡ unlessRefused r (setBudget (sheetAnswer (now (text .entry)))) (now (budget .entry)) ⌝ }
-    ensures line { λ r. ⌜ now (line .exit) ≡ unlessRefused r (now (line .entry)) (refusedLine (sheetAnswer (now (text .entry)))) ⌝ }
+    ensures { λ r. ⌜ SheetReturns (now (text .entry)) (setupRoom (now (mem .entry)) (now (stamps .entry)) (now (layout .entry)) (now (count .entry)) (now (budget .entry)) (now (line .entry))) (setupRoom (now (mem .exit)) (now (stamps .exit)) (now (layout .exit)) (now (count .exit)) (now (budget .exit)) (now (line .exit))) r ⌝ }
 {
     match read_sheet(text) {
         Answer::Refused(refusal, at) => {

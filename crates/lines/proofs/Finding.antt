@@ -1,5 +1,5 @@
--- One turn of the search for a byte, and parts to the end. Assumes nothing.
-use Prim.Native.Nat.{ℕ, _+_, _<_, _-_}
+-- One turn of the search for a byte, parts to the end, and what is left of a text. Assumes nothing.
+use Prim.Native.Nat.{ℕ, _+_, _≤_, _<_, _-_}
 use mathlib.Core.Path.{_≡_, _∙_}
 use mathlib.Core.List.{List}
 use native.Mathlib.Omega.{arith}
@@ -8,7 +8,7 @@ use lib.ListN.{length, getD, take, drop, length-drop}
 use lib.Seq.{drop-cons, drop-length, take-length}
 use borrow.Author.Tests.{eq-eqb, ne-eqb}
 use Rattle.base.specs.Test.{if_then_else_}
-use Rattle.lines.specs.Text.{find}
+use Rattle.lines.specs.Text.{find, rest}
 
 -- the search has come to i
 abbrev pub Searched : List ℕ → ℕ → ℕ → Type 0
@@ -30,3 +30,10 @@ module _ (s : List ℕ) (b i : ℕ) (g : Searched s b i) where
 -- a part from a start to the end
 pub from-here : (s : List ℕ) (n : ℕ) → take (length s - n) (drop n s) ≡ drop n s
 from-here s n = rw (← length-drop n s) (take-length (drop n s))
+
+-- the rest of a text is not longer, and shorter where the text is not empty
+pub rest-within : (s : List ℕ) (b : ℕ) → length (rest s b) ≤ length s
+rest-within s b = rw (length-drop (find s b + 1) s) (omega arith)
+
+pub rest-less : (s : List ℕ) (b : ℕ) → 0 < length s → length (rest s b) < length s
+rest-less s b h = rw (length-drop (find s b + 1) s) (omega arith)

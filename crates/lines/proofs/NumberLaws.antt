@@ -9,9 +9,9 @@ use lib.Seq.{drop-cons}
 use borrow.Author.Tests.{le-leb, lt-leb}
 use Rattle.base.proofs.Tests.{if-true, if-false}
 use Rattle.lines.specs.declared.number.Digit.{Digit}
-use Rattle.lines.specs.declared.number.Digit.the-variants.{Is as Digits, Bad as NoDigit}
+use Rattle.lines.specs.declared.number.Digit.the-variants.{Parsed as Digits, Unreadable as NoDigit}
 use Rattle.lines.specs.declared.number.Decimal.{Decimal}
-use Rattle.lines.specs.declared.number.Decimal.the-variants.{Is as DecimalIs, Bad as NoDecimal}
+use Rattle.lines.specs.declared.number.Decimal.the-variants.{Parsed as DecimalIs, Unreadable as NoDecimal}
 use Rattle.lines.specs.Number.{decimalDigit, oneMore, digitsFrom}
 use Rattle.lines.specs.internal.Digit.{within}
 
@@ -29,8 +29,8 @@ module _ (f : List ℕ) (i n : ℕ) where
   unfolding digitsFrom
   digits-here h = rw (add-one, drop-cons f i 0 h)
 
-  pub digits-bad : i < length f → decimalDigit (getD f i 0) ≡ NoDigit → digitsFrom n (drop i f) ≡ NoDecimal
-  digits-bad h e = digits-here h ∙ ap (λ (d : Digit). oneMore d n (λ m. digitsFrom m (drop (i + 1) f))) e
+  pub digits-unreadable : i < length f → decimalDigit (getD f i 0) ≡ NoDigit → digitsFrom n (drop i f) ≡ NoDecimal
+  digits-unreadable h e = digits-here h ∙ ap (λ (d : Digit). oneMore d n (λ m. digitsFrom m (drop (i + 1) f))) e
 
   module _ (d : ℕ) (h : i < length f) (e : decimalDigit (getD f i 0) ≡ Digits d) where
     digits-digit : digitsFrom n (drop i f) ≡ oneMore (Digits d) n (λ m. digitsFrom m (drop (i + 1) f))

@@ -7,14 +7,14 @@ use Rattle.base.specs.Test.{if_then_else_}
 use Rattle.base.specs.Word.{isEven}
 use Rattle.layout.specs.declared.sections.Span.{Span}
 use Rattle.lines.specs.declared.number.Hex.{Hex}
-use Rattle.lines.specs.declared.number.Hex.the-variants.{Is as HexIs, Bad as NoHex}
+use Rattle.lines.specs.declared.number.Hex.the-variants.{Parsed as HexIs, Unreadable as NoHex}
 use Rattle.lines.specs.declared.number.Decimal.{Decimal}
-use Rattle.lines.specs.declared.number.Decimal.the-variants.{Is as DecimalIs, Bad as NoDecimal}
+use Rattle.lines.specs.declared.number.Decimal.the-variants.{Parsed as DecimalIs, Unreadable as NoDecimal}
 use Rattle.lines.specs.declared.line.Part.{Part}
-use Rattle.lines.specs.declared.line.Part.the-variants.{Is as PartIs, Bad as NoPart}
-use Rattle.lines.specs.declared.line.Said.the-variants.{Layout, Word, Stamp, Budget}
+use Rattle.lines.specs.declared.line.Part.the-variants.{Parsed as PartIs, Unreadable as NoPart}
+use Rattle.lines.specs.declared.line.Content.the-variants.{Layout, Word, Stamp, Budget}
 use Rattle.lines.specs.declared.line.Line.{Line}
-use Rattle.lines.specs.declared.line.Line.the-variants.{Is, Bad}
+use Rattle.lines.specs.declared.line.Line.the-variants.{Parsed, Unreadable}
 use Rattle.lines.specs.Text.{tab, head, rest}
 use Rattle.lines.specs.Number.{hexOf, decimalOf}
 
@@ -29,10 +29,10 @@ spanOf s t = spanned (hexOf s) (hexOf t)
 
 -- code, data and service address
 abbrev pub laidOut : Part → Part → Hex → Line
-laidOut NoPart d s = Bad
-laidOut (PartIs c) NoPart s = Bad
-laidOut (PartIs c) (PartIs d) NoHex = Bad
-laidOut (PartIs c) (PartIs d) (HexIs s) = Is (Layout (record { code = c; «data» = d; service = s }))
+laidOut NoPart d s = Unreadable
+laidOut (PartIs c) NoPart s = Unreadable
+laidOut (PartIs c) (PartIs d) NoHex = Unreadable
+laidOut (PartIs c) (PartIs d) (HexIs s) = Parsed (Layout (record { code = c; «data» = d; service = s }))
 
 -- L and the five addresses
 unfoldable pub layoutLine : List ℕ → Line
@@ -44,9 +44,9 @@ layoutLine fields =
 
 -- an even address and a word
 abbrev pub worded : Hex → Hex → Line
-worded NoHex w = Bad
-worded (HexIs a) NoHex = Bad
-worded (HexIs a) (HexIs w) = if isEven a then Is (Word a w) else Bad
+worded NoHex w = Unreadable
+worded (HexIs a) NoHex = Unreadable
+worded (HexIs a) (HexIs w) = if isEven a then Parsed (Word a w) else Unreadable
 
 -- M, an even address and a word
 unfoldable pub wordLine : List ℕ → Line
@@ -54,16 +54,16 @@ wordLine fields = worded (hexOf (head fields tab)) (hexOf (rest fields tab))
 
 -- A and a stamp
 abbrev pub stamped : Decimal → Line
-stamped NoDecimal = Bad
-stamped (DecimalIs n) = Is (Stamp n)
+stamped NoDecimal = Unreadable
+stamped (DecimalIs n) = Parsed (Stamp n)
 
 unfoldable pub stampLine : List ℕ → Line
 stampLine fields = stamped (decimalOf fields)
 
 -- G and the budget
 abbrev pub budgeted : Decimal → Line
-budgeted NoDecimal = Bad
-budgeted (DecimalIs n) = Is (Budget n)
+budgeted NoDecimal = Unreadable
+budgeted (DecimalIs n) = Parsed (Budget n)
 
 unfoldable pub budgetLine : List ℕ → Line
 budgetLine fields = budgeted (decimalOf fields)
@@ -75,8 +75,8 @@ byLetter letter fields =
     else if eqb letter 0x4D then wordLine fields
     else if eqb letter 0x41 then stampLine fields
     else if eqb letter 0x47 then budgetLine fields
-    else Bad
+    else Unreadable
 
 -- a line: one letter, a tab, and its fields
-unfoldable pub lineOf : List ℕ → Line
-lineOf line = if eqb (length (head line tab)) 1 then byLetter (getD (head line tab) 0 0) (rest line tab) else Bad
+unfoldable pub parseLine : List ℕ → Line
+parseLine line = if eqb (length (head line tab)) 1 then byLetter (getD (head line tab) 0 0) (rest line tab) else Unreadable

@@ -6,11 +6,11 @@ use lib.Dec.{eqb, ltb, leb}
 use lib.ListN.{length, getD}
 use Rattle.base.specs.Test.{if_then_else_}
 use Rattle.lines.specs.declared.number.Digit.{Digit}
-use Rattle.lines.specs.declared.number.Digit.the-variants.{Is as Digits, Bad as NoDigit}
+use Rattle.lines.specs.declared.number.Digit.the-variants.{Parsed as Digits, Unreadable as NoDigit}
 use Rattle.lines.specs.declared.number.Hex.{Hex}
-use Rattle.lines.specs.declared.number.Hex.the-variants.{Is as HexIs, Bad as NoHex}
+use Rattle.lines.specs.declared.number.Hex.the-variants.{Parsed as HexIs, Unreadable as NoHex}
 use Rattle.lines.specs.declared.number.Decimal.{Decimal}
-use Rattle.lines.specs.declared.number.Decimal.the-variants.{Is as DecimalIs, Bad as NoDecimal}
+use Rattle.lines.specs.declared.number.Decimal.the-variants.{Parsed as DecimalIs, Unreadable as NoDecimal}
 
 -- 0 to 9
 unfoldable pub decimalDigit : ℕ → Digit

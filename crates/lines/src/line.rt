@@ -1,6 +1,6 @@
 // What a line of the sheet says.
 ghost use mathlib.Core.Path.{_≡_};
-ghost use Rattle.lines.specs.Line.{spanOf, layoutLine, wordLine, stampLine, budgetLine, lineOf};
+ghost use Rattle.lines.specs.Line.{spanOf, layoutLine, wordLine, stampLine, budgetLine, parseLine};
 use crate::number::Decimal;
 use crate::number::Hex;
 use crate::number::read_decimal;
@@ -12,7 +12,7 @@ use layout::sections::Layout;
 use layout::sections::Span;
 
 // What a line says: a layout, a word in memory, a stamp of the timetable, the budget.
-pub enum Said {
+pub enum Content {
     Layout(Layout),
     Word(u16, u16),
     Stamp(u64),
@@ -21,27 +21,27 @@ pub enum Said {
 
 // A line that can be read, or not.
 pub enum Line {
-    Is(Said),
-    Bad,
+    Parsed(Content),
+    Unreadable,
 }
 
 // A section's start and end, or not.
 pub enum Part {
-    Is(Span),
-    Bad,
+    Parsed(Span),
+    Unreadable,
 }
 
 // Two hexadecimal fields.
 fn read_span(start: &[u8], end: &[u8]) -> Part
     ensures { λ r. ⌜ r ≡ spanOf (now (start .entry)) (now (end .entry)) ⌝ }
 {
-    let Hex::Is(from) = read_hex(start) else {
-        return Part::Bad;
+    let Hex::Parsed(from) = read_hex(start) else {
+        return Part::Unreadable;
     };
-    let Hex::Is(to) = read_hex(end) else {
-        return Part::Bad;
+    let Hex::Parsed(to) = read_hex(end) else {
+        return Part::Unreadable;
     };
-    Part::Is(Span {
+    Part::Parsed(Span {
         start: from,
         end: to,
     })
@@ -55,16 +55,16 @@ fn layout_line(fields: &[u8]) -> Line
     let third = rest(second, 9);
     let fourth = rest(third, 9);
     let fifth = rest(fourth, 9);
-    let Part::Is(code) = read_span(head(fields, 9), head(second, 9)) else {
-        return Line::Bad;
+    let Part::Parsed(code) = read_span(head(fields, 9), head(second, 9)) else {
+        return Line::Unreadable;
     };
-    let Part::Is(data) = read_span(head(third, 9), head(fourth, 9)) else {
-        return Line::Bad;
+    let Part::Parsed(data) = read_span(head(third, 9), head(fourth, 9)) else {
+        return Line::Unreadable;
     };
-    let Hex::Is(service) = read_hex(fifth) else {
-        return Line::Bad;
+    let Hex::Parsed(service) = read_hex(fifth) else {
+        return Line::Unreadable;
     };
-    Line::Is(Said::Layout(Layout {
+    Line::Parsed(Content::Layout(Layout {
         code: code,
         data: data,
         service: service,
@@ -75,45 +75,45 @@ fn layout_line(fields: &[u8]) -> Line
 fn word_line(fields: &[u8]) -> Line
     ensures { λ r. ⌜ r ≡ wordLine (now (fields .entry)) ⌝ }
 {
-    let Hex::Is(a) = read_hex(head(fields, 9)) else {
-        return Line::Bad;
+    let Hex::Parsed(a) = read_hex(head(fields, 9)) else {
+        return Line::Unreadable;
     };
-    let Hex::Is(w) = read_hex(rest(fields, 9)) else {
-        return Line::Bad;
+    let Hex::Parsed(w) = read_hex(rest(fields, 9)) else {
+        return Line::Unreadable;
     };
     if is_even(a) {
-        return Line::Is(Said::Word(a, w));
+        return Line::Parsed(Content::Word(a, w));
     }
-    Line::Bad
+    Line::Unreadable
 }
 
 // A and a stamp.
 fn stamp_line(fields: &[u8]) -> Line
     ensures { λ r. ⌜ r ≡ stampLine (now (fields .entry)) ⌝ }
 {
-    let Decimal::Is(n) = read_decimal(fields) else {
-        return Line::Bad;
+    let Decimal::Parsed(n) = read_decimal(fields) else {
+        return Line::Unreadable;
     };
-    Line::Is(Said::Stamp(n))
+    Line::Parsed(Content::Stamp(n))
 }
 
 // G and the budget.
 fn budget_line(fields: &[u8]) -> Line
     ensures { λ r. ⌜ r ≡ budgetLine (now (fields .entry)) ⌝ }
 {
-    let Decimal::Is(n) = read_decimal(fields) else {
-        return Line::Bad;
+    let Decimal::Parsed(n) = read_decimal(fields) else {
+        return Line::Unreadable;
     };
-    Line::Is(Said::Budget(n))
+    Line::Parsed(Content::Budget(n))
 }
 
 // A line by its letter. Fields are parted by tabs.
 pub fn read_line(line: &[u8]) -> Line
-    ensures { λ r. ⌜ r ≡ lineOf (now (line .entry)) ⌝ }
+    ensures { λ r. ⌜ r ≡ parseLine (now (line .entry)) ⌝ }
 {
     let letter = head(line, 9);
     if letter.len() != 1 {
-        return Line::Bad;
+        return Line::Unreadable;
     }
     let fields = rest(line, 9);
     match letter[0] {
@@ -121,6 +121,6 @@ pub fn read_line(line: &[u8]) -> Line
         b'M' => word_line(fields),
         b'A' => stamp_line(fields),
         b'G' => budget_line(fields),
-        _ => Line::Bad,
+        _ => Line::Unreadable,
     }
 }

@@ -5,20 +5,20 @@ ghost use Rattle.lines.specs.internal.Digit.{within};
 
 // A digit, or no digit.
 pub enum Digit {
-    Is(u8),
-    Bad,
+    Parsed(u8),
+    Unreadable,
 }
 
 // A hexadecimal field, or none.
 pub enum Hex {
-    Is(u16),
-    Bad,
+    Parsed(u16),
+    Unreadable,
 }
 
 // A decimal field, or none.
 pub enum Decimal {
-    Is(u64),
-    Bad,
+    Parsed(u64),
+    Unreadable,
 }
 
 // A decimal digit.
@@ -26,12 +26,12 @@ fn decimal_digit(b: u8) -> Digit
     ensures { λ r. ⌜ (r ≡ decimalDigit b) × within 9 r ⌝ }
 {
     if b < b'0' {
-        return Digit::Bad;
+        return Digit::Unreadable;
     }
     if b <= b'9' {
-        return Digit::Is(b - b'0');
+        return Digit::Parsed(b - b'0');
     }
-    Digit::Bad
+    Digit::Unreadable
 }
 
 // A hexadecimal digit, capitals.
@@ -42,9 +42,9 @@ fn hex_digit(b: u8) -> Digit
         return decimal_digit(b);
     }
     if b <= b'F' {
-        return Digit::Is(b - b'A' + 10);
+        return Digit::Parsed(b - b'A' + 10);
     }
-    Digit::Bad
+    Digit::Unreadable
 }
 
 // Four hexadecimal digits.
@@ -52,21 +52,21 @@ pub fn read_hex(field: &[u8]) -> Hex
     ensures { λ r. ⌜ r ≡ hexOf (now (field .entry)) ⌝ }
 {
     if field.len() != 4 {
-        return Hex::Bad;
+        return Hex::Unreadable;
     }
-    let Digit::Is(a) = hex_digit(field[0]) else {
-        return Hex::Bad;
+    let Digit::Parsed(a) = hex_digit(field[0]) else {
+        return Hex::Unreadable;
     };
-    let Digit::Is(b) = hex_digit(field[1]) else {
-        return Hex::Bad;
+    let Digit::Parsed(b) = hex_digit(field[1]) else {
+        return Hex::Unreadable;
     };
-    let Digit::Is(c) = hex_digit(field[2]) else {
-        return Hex::Bad;
+    let Digit::Parsed(c) = hex_digit(field[2]) else {
+        return Hex::Unreadable;
     };
-    let Digit::Is(d) = hex_digit(field[3]) else {
-        return Hex::Bad;
+    let Digit::Parsed(d) = hex_digit(field[3]) else {
+        return Hex::Unreadable;
     };
-    Hex::Is(a as u16 * 4096 + b as u16 * 256 + c as u16 * 16 + d as u16)
+    Hex::Parsed(a as u16 * 4096 + b as u16 * 256 + c as u16 * 16 + d as u16)
 }
 
 // A zero that leads other digits.
@@ -84,22 +84,22 @@ pub fn read_decimal(field: &[u8]) -> Decimal
     ensures { λ r. ⌜ r ≡ decimalOf (now (field .entry)) ⌝ }
 {
     if field.len() == 0 {
-        return Decimal::Bad;
+        return Decimal::Unreadable;
     }
     if is_zero_led(field) {
-        return Decimal::Bad;
+        return Decimal::Unreadable;
     }
     let mut n: u64 = 0;
     let mut i = 0;
     while i < field.len() {
-        let Digit::Is(d) = decimal_digit(field[i]) else {
-            return Decimal::Bad;
+        let Digit::Parsed(d) = decimal_digit(field[i]) else {
+            return Decimal::Unreadable;
         };
         if n >= 1_000_000_000_000_000_000 {
-            return Decimal::Bad;
+            return Decimal::Unreadable;
         }
         n = n * 10 + d as u64;
         i += 1;
     }
-    Decimal::Is(n)
+    Decimal::Parsed(n)
 }

@@ -6,17 +6,17 @@ use Prim.Native.Nat.{ℕ}
 use native.Mathlib.Omega.{arith}
 use lib.ListN.{getD}
 use Rattle.base.proofs.Tests.{never, if-true}
-use Rattle.definition.specs.declared.state.Visit.the-variants.{Held}
+use Rattle.definition.specs.declared.state.SavedContext.the-variants.{Held}
 use Rattle.definition.proofs.frame.FrameLaws.{held-framed}
-use Rattle.numbers.specs.State.{oddFlag, visitOf, machineOf}
+use Rattle.numbers.specs.State.{oddFlag, contextOf, machineOf}
 use Rattle.numbers.specs.Laws.{OddFlagUnframed}
 
 -- they are read as a visit of age 255
-odd-visit : (fields : List ℕ) → oddFlag fields ≡ true → visitOf fields ≡ Held (getD fields 3 0) 255
-unfolding visitOf
-odd-visit fields h = if-true _ _ _ h
+odd-context : (fields : List ℕ) → oddFlag fields ≡ true → contextOf fields ≡ Held (getD fields 3 0) 255
+unfolding contextOf
+odd-context fields h = if-true _ _ _ h
 
 pub odd-flag-unframed : OddFlagUnframed
 unfolding OddFlagUnframed machineOf
-odd-flag-unframed L n h =
-    never _ (λ f. let b = held-framed L (machineOf n) _ 255 f (odd-visit (n .control) h) .age-bound in omega arith)
+odd-flag-unframed S n h =
+    never _ (λ f. let b = held-framed S (machineOf n) _ 255 f (odd-context (n .control) h) .age-bound in omega arith)

@@ -12,11 +12,11 @@ use Rattle.base.proofs.Tests.{each, if-false}
 use Rattle.layout.specs.declared.sections.Layout.{Layout}
 use Rattle.definition.specs.declared.state.Stamp.{Stamp}
 use Rattle.definition.specs.declared.state.Stamp.the-variants.{Never, At}
-use Rattle.definition.specs.declared.state.Visit.{Visit}
-use Rattle.definition.specs.declared.state.Visit.the-variants.{Free, Held}
-use Rattle.definition.specs.State.{framedSlot, framedAlarm, framedVisit}
+use Rattle.definition.specs.declared.state.SavedContext.{SavedContext}
+use Rattle.definition.specs.declared.state.SavedContext.the-variants.{Unheld, Held}
+use Rattle.definition.specs.State.{framedSlot, framedAlarm, framedContext}
 use Rattle.definition.proofs.frame.FrameLaws.{frame-parts}
-use Rattle.numbers.specs.State.{layoutOf, layoutFields, stampOf, stampNumber, timeOf, timeFields, byteOf, oddFlag, visitOf, controlFields, machineOf, numbersOf}
+use Rattle.numbers.specs.State.{layoutOf, layoutFields, stampOf, stampNumber, timeOf, timeFields, byteOf, oddFlag, contextOf, controlFields, machineOf, numbersOf}
 use Rattle.numbers.specs.Laws.{LayoutAgain, MachineAgain}
 
 pub layout-again : LayoutAgain
@@ -43,32 +43,32 @@ age-again : (age : ℕ) → age ≤ 6 → byteOf age ≡ age
 unfolding byteOf
 age-again age h = if-false _ _ _ (le-ltb 255 age (omega arith))
 
-visit-again : (L : Layout) (saved : List ℕ) (previous : ℕ) (halted : Bool) (v : Visit) → framedVisit L saved v ≡ true
-    → visitOf (controlFields previous halted v) ≡ v
-unfolding visitOf oddFlag any if_then_else_
-visit-again L saved previous true Free h = refl
-visit-again L saved previous false Free h = refl
-visit-again L saved previous true (Held p age) h = rw (age-again age (leb-true _ _ (each _ h .0)))
-visit-again L saved previous false (Held p age) h = rw (age-again age (leb-true _ _ (each _ h .0)))
+context-again : (L : Layout) (saved : List ℕ) (previous : ℕ) (halted : Bool) (v : SavedContext) → framedContext L saved v ≡ true
+    → contextOf (controlFields previous halted v) ≡ v
+unfolding contextOf oddFlag any if_then_else_
+context-again L saved previous true Unheld h = refl
+context-again L saved previous false Unheld h = refl
+context-again L saved previous true (Held p age) h = rw (age-again age (leb-true _ _ (each _ h .0)))
+context-again L saved previous false (Held p age) h = rw (age-again age (leb-true _ _ (each _ h .0)))
 
-halted-again : (previous : ℕ) (halted : Bool) (v : Visit) → not (eqb (getD (controlFields previous halted v) 1 0) 0) ≡ halted
-halted-again previous true Free = refl
-halted-again previous false Free = refl
+halted-again : (previous : ℕ) (halted : Bool) (v : SavedContext) → not (eqb (getD (controlFields previous halted v) 1 0) 0) ≡ halted
+halted-again previous true Unheld = refl
+halted-again previous false Unheld = refl
 halted-again previous true (Held p age) = refl
 halted-again previous false (Held p age) = refl
 
-previous-again : (previous : ℕ) (halted : Bool) (v : Visit) → getD (controlFields previous halted v) 0 0 ≡ previous
-previous-again previous halted Free = refl
+previous-again : (previous : ℕ) (halted : Bool) (v : SavedContext) → getD (controlFields previous halted v) 0 0 ≡ previous
+previous-again previous halted Unheld = refl
 previous-again previous halted (Held p age) = refl
 
 pub machine-again : MachineAgain
 unfolding MachineAgain machineOf numbersOf timeOf timeFields
-machine-again L m h =
-    let f = frame-parts L m h in
+machine-again S m h =
+    let f = frame-parts S m h in
     simp (
-      previous-again (m .previous) (m .halted) (m .visit),
-      halted-again (m .previous) (m .halted) (m .visit),
-      visit-again L (m .saved) (m .previous) (m .halted) (m .visit) (f .visit),
+      previous-again (m .previous) (m .halted) (m .context),
+      halted-again (m .previous) (m .halted) (m .context),
+      context-again (S .layout) (m .saved) (m .previous) (m .halted) (m .context) (f .context),
       slot-again (m .time .clock) (m .time .slot) (f .time .slot),
       alarm-again (m .time .clock) (m .time .alarm) (f .time .alarm),
     )

@@ -1,4 +1,4 @@
--- Rows by their places, and instructions by their four numbers. Assumes nothing.
+-- Rows by their indices, and instructions by their four numbers. Assumes nothing.
 use mathlib.Core.Path.{_≡_, refl, sym, _∙_, ap}
 use mathlib.Core.Bool.{true, false}
 use Prim.Native.Nat.{ℕ, _<_}
@@ -18,12 +18,12 @@ use Rattle.isa.specs.declared.table.Encoding.{Encoding}
 use Rattle.isa.specs.declared.write.Writing.the-variants.{Refused as Unwritten}
 use Rattle.isa.specs.Table.{instructionOf, encodingOf}
 use Rattle.isa.specs.Words.{encodable, written}
-use Rattle.numbers.specs.declared.instruction.Numbered.the-variants.{Is}
+use Rattle.numbers.specs.declared.instruction.Numbered.the-variants.{Present}
 use Rattle.numbers.specs.State.{byteOf}
-use Rattle.numbers.specs.Instruction.{rowAt, placeOf, fieldsOf, writingOf}
-use Rattle.numbers.specs.Laws.{RowAtPlace, FieldsWritten}
+use Rattle.numbers.specs.Instruction.{rowAt, rowIndex, fieldsOf, writingOf}
+use Rattle.numbers.specs.Laws.{RowAtIndex, FieldsWritten}
 
-row-at : (r : Row) → rowAt (placeOf r) ≡ Is r
+row-at : (r : Row) → rowAt (rowIndex r) ≡ Present r
 unfolding rowAt if_then_else_
 row-at HLT = refl
 row-at IN = refl
@@ -42,9 +42,9 @@ row-at (COMPUTE Cmp) = refl
 row-at (COMPUTE And) = refl
 row-at NOT = refl
 
-pub row-at-place : RowAtPlace
-unfolding RowAtPlace
-row-at-place = row-at
+pub row-at-index : RowAtIndex
+unfolding RowAtIndex
+row-at-index = row-at
 
 -- an encoding whose registers have 8 bits
 abbrev narrowed : Encoding → Encoding

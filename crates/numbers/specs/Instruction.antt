@@ -1,4 +1,4 @@
--- One instruction in four numbers: its place among the rows of document 01's table, source, destination, constant.
+-- One instruction in four numbers: its index among the rows of document 01's table, source, destination, constant.
 use Prim.Native.Nat.{ℕ}
 use mathlib.Core.List.{List, [], _∷_}
 use lib.Dec.{ltb}
@@ -16,48 +16,48 @@ use Rattle.isa.specs.declared.write.Writing.the-variants.{Refused as Unwritten}
 use Rattle.isa.specs.Table.{rows, instructionOf, encodingOf}
 use Rattle.isa.specs.Words.{writing}
 use Rattle.numbers.specs.declared.instruction.Numbered.{Numbered}
-use Rattle.numbers.specs.declared.instruction.Numbered.the-variants.{Is, Nothing}
+use Rattle.numbers.specs.declared.instruction.Numbered.the-variants.{Present, Absent}
 use Rattle.numbers.specs.State.{byteOf}
 
--- the row at a place of document 01's list, from 0; there are sixteen
+-- the row at an index of document 01's list, from 0; there are sixteen
 unfoldable pub rowAt : ℕ → Numbered
-rowAt n = if ltb n 16 then Is (getD rows n HLT) else Nothing
+rowAt n = if ltb n 16 then Present (getD rows n HLT) else Absent
 
--- the place of an operation's row
-abbrev pub operationPlace : Operation → ℕ
-operationPlace Add = 11
-operationPlace Sub = 12
-operationPlace Cmp = 13
-operationPlace And = 14
+-- the index of an operation's row
+abbrev pub operationIndex : Operation → ℕ
+operationIndex Add = 11
+operationIndex Sub = 12
+operationIndex Cmp = 13
+operationIndex And = 14
 
--- the place of a row
-abbrev pub placeOf : Row → ℕ
-placeOf HLT = 0
-placeOf IN = 1
-placeOf OUT = 2
-placeOf JZ = 3
-placeOf RETI = 4
-placeOf NOP = 5
-placeOf JMP = 6
-placeOf MOV = 7
-placeOf LOAD = 8
-placeOf STORE = 9
-placeOf IMMEDIATE = 10
-placeOf (COMPUTE o) = operationPlace o
-placeOf NOT = 15
+-- the index of a row
+abbrev pub rowIndex : Row → ℕ
+rowIndex HLT = 0
+rowIndex IN = 1
+rowIndex OUT = 2
+rowIndex JZ = 3
+rowIndex RETI = 4
+rowIndex NOP = 5
+rowIndex JMP = 6
+rowIndex MOV = 7
+rowIndex LOAD = 8
+rowIndex STORE = 9
+rowIndex IMMEDIATE = 10
+rowIndex (COMPUTE o) = operationIndex o
+rowIndex NOT = 15
 
 -- the four numbers of an encoding
 abbrev pub encodingFields : Encoding → List ℕ
-encodingFields e = placeOf (e .row) ∷ e .source ∷ e .destination ∷ e .word ∷ []
+encodingFields e = rowIndex (e .row) ∷ e .source ∷ e .destination ∷ e .word ∷ []
 
 -- the four numbers of an instruction
 unfoldable pub fieldsOf : Instruction → List ℕ
 fieldsOf i = encodingFields (encodingOf i)
 
--- the words of what stands at a place, with two registers and a constant; where no row stands there, refusal 9
+-- the words of what stands at an index, with two registers and a constant; where no row stands there, refusal 9
 abbrev pub writingAt : Numbered → ℕ → ℕ → ℕ → Writing
-writingAt Nothing s d w = Unwritten Word
-writingAt (Is row) s d w = writing (instructionOf row s d w)
+writingAt Absent s d w = Unwritten Word
+writingAt (Present row) s d w = writing (instructionOf row s d w)
 
 -- the words of four numbers, or refusal 9
 unfoldable pub writingOf : List ℕ → Writing

@@ -9,8 +9,8 @@ use Rattle.layout.specs.declared.sections.Layout.{Layout}
 use Rattle.definition.specs.declared.state.Stamp.{Stamp}
 use Rattle.definition.specs.declared.state.Stamp.the-variants.{Never, At}
 use Rattle.definition.specs.declared.state.Time.{Time}
-use Rattle.definition.specs.declared.state.Visit.{Visit}
-use Rattle.definition.specs.declared.state.Visit.the-variants.{Free, Held}
+use Rattle.definition.specs.declared.state.SavedContext.{SavedContext}
+use Rattle.definition.specs.declared.state.SavedContext.the-variants.{Unheld, Held}
 use Rattle.definition.specs.declared.state.State.{State}
 
 -- the layout of five addresses: code start and end, data start and end, service address
@@ -52,15 +52,15 @@ unfoldable pub oddFlag : List ℕ → Bool
 oddFlag fields = any (ltb 1 (getD fields 1 0) ∷ ltb 1 (getD fields 2 0) ∷ [])
 
 -- their visit; where a flag is odd, one of an age that no frame has
-unfoldable pub visitOf : List ℕ → Visit
-visitOf fields =
+unfoldable pub contextOf : List ℕ → SavedContext
+contextOf fields =
     if oddFlag fields then Held (getD fields 3 0) 255
-    else if eqb (getD fields 2 0) 0 then Free
+    else if eqb (getD fields 2 0) 0 then Unheld
     else Held (getD fields 3 0) (byteOf (getD fields 4 0))
 
 -- the five numbers of a previous address, halted and the visit
-abbrev pub controlFields : ℕ → Bool → Visit → List ℕ
-controlFields previous halted Free = previous ∷ bitOf halted ∷ 0 ∷ 0 ∷ 0 ∷ []
+abbrev pub controlFields : ℕ → Bool → SavedContext → List ℕ
+controlFields previous halted Unheld = previous ∷ bitOf halted ∷ 0 ∷ 0 ∷ 0 ∷ []
 controlFields previous halted (Held heldPrevious age) = previous ∷ bitOf halted ∷ 1 ∷ heldPrevious ∷ age ∷ []
 
 -- a machine in the numbers that a caller lends
@@ -81,11 +81,11 @@ machineOf n =
       registers = n .registers;
       previous = getD (n .control) 0 0;
       time = timeOf (n .time);
-      visit = visitOf (n .control);
+      context = contextOf (n .control);
       saved = n .saved;
       halted = not (eqb (getD (n .control) 1 0) 0);
     }
 
 -- the numbers of a machine
 unfoldable pub numbersOf : State → Numbers
-numbersOf m = numbers (m .registers) (m .saved) (controlFields (m .previous) (m .halted) (m .visit)) (timeFields (m .time))
+numbersOf m = numbers (m .registers) (m .saved) (controlFields (m .previous) (m .halted) (m .context)) (timeFields (m .time))

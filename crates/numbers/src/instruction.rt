@@ -1,6 +1,6 @@
 // One instruction as four numbers: its row in the table of instruction words, source, destination, constant.
 ghost use mathlib.Core.Path.{_≡_};
-ghost use Rattle.numbers.specs.Instruction.{rowAt, operationPlace, placeOf, fieldsOf, writingOf};
+ghost use Rattle.numbers.specs.Instruction.{rowAt, operationIndex, rowIndex, fieldsOf, writingOf};
 use crate::state::byte_of;
 use base::refusal::Refusal;
 use isa::instruction::Instruction;
@@ -12,8 +12,8 @@ use isa::write::Writing;
 
 // A row, or none.
 enum Numbered {
-    Is(Row),
-    Nothing,
+    Present(Row),
+    Absent,
 }
 
 // The rows in document 01's order.
@@ -36,20 +36,20 @@ const ROWS: [Row; 16] = [
     Row::Not,
 ];
 
-// The row at a place of the table, from 0.
+// The row at an index of the table, from 0.
 fn row_at(n: u16) -> Numbered
     ensures { λ r. ⌜ r ≡ rowAt n ⌝ }
 {
     let i = n as usize;
     if i < 16 {
-        return Numbered::Is(ROWS[i]);
+        return Numbered::Present(ROWS[i]);
     }
-    Numbered::Nothing
+    Numbered::Absent
 }
 
-// The place of an operation's row.
-fn operation_place(o: Operation) -> u16
-    ensures { λ r. ⌜ r ≡ operationPlace o ⌝ }
+// The index of an operation's row.
+fn operation_index(o: Operation) -> u16
+    ensures { λ r. ⌜ r ≡ operationIndex o ⌝ }
 {
     match o {
         Operation::Add => 11,
@@ -59,9 +59,9 @@ fn operation_place(o: Operation) -> u16
     }
 }
 
-// The place of a row.
-fn place_of(row: Row) -> u16
-    ensures { λ r. ⌜ r ≡ placeOf row ⌝ }
+// The index of a row.
+fn row_index(row: Row) -> u16
+    ensures { λ r. ⌜ r ≡ rowIndex row ⌝ }
 {
     match row {
         Row::Hlt => 0,
@@ -75,7 +75,7 @@ fn place_of(row: Row) -> u16
         Row::Load => 8,
         Row::Store => 9,
         Row::Immediate => 10,
-        Row::Compute(o) => operation_place(o),
+        Row::Compute(o) => operation_index(o),
         Row::Not => 15,
     }
 }
@@ -86,7 +86,12 @@ pub fn fields_of(i: Instruction) -> [u16; 4]
 {
     let e = encoding_of(i);
     let row = e.row;
-    [place_of(row), e.source as u16, e.destination as u16, e.word]
+    [
+        row_index(row),
+        e.source as u16,
+        e.destination as u16,
+        e.word,
+    ]
 }
 
 // The words of four numbers, or refusal 9.
@@ -94,8 +99,8 @@ pub fn write_fields(fields: [u16; 4]) -> Writing
     ensures { λ r. ⌜ r ≡ writingOf fields ⌝ }
 {
     match row_at(fields[0]) {
-        Numbered::Nothing => Writing::Refused(Refusal::Word),
-        Numbered::Is(row) => {
+        Numbered::Absent => Writing::Refused(Refusal::Word),
+        Numbered::Present(row) => {
             let s = byte_of(fields[1]);
             let d = byte_of(fields[2]);
             instruction_of(row, s, d, fields[3]).write()

@@ -1,5 +1,5 @@
 // What is claimed of the numbers that a caller lends: each claim is the contract of a function with nothing to do.
-ghost use Rattle.numbers.specs.Laws.{LayoutAgain, MachineAgain, OddFlagUnframed, RowAtPlace, FieldsWritten};
+ghost use Rattle.numbers.specs.Laws.{LayoutAgain, MachineAgain, OddFlagUnframed, RowAtIndex, FieldsWritten};
 
 // A layout handed back and read again is the same layout.
 pub fn layout_again()
@@ -16,9 +16,9 @@ pub fn odd_flag_unframed()
     ensures { λ _. ⌜ OddFlagUnframed ⌝ }
 {}
 
-// Each row of the table of instruction words stands at its place.
-pub fn row_at_place()
-    ensures { λ _. ⌜ RowAtPlace ⌝ }
+// Each row of the table of instruction words stands at its index.
+pub fn row_at_index()
+    ensures { λ _. ⌜ RowAtIndex ⌝ }
 {}
 
 // The four numbers of an instruction are written as the instruction is.

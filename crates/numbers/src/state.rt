@@ -1,12 +1,12 @@
 // The machine and the layout as numbers that a caller lends.
 ghost use mathlib.Core.Path.{_≡_};
-ghost use Rattle.numbers.specs.State.{layoutOf, layoutFields, stampOf, stampNumber, timeOf, timeFields, byteOf, oddFlag, visitOf, controlFields, numbers, machineOf, numbersOf};
+ghost use Rattle.numbers.specs.State.{layoutOf, layoutFields, stampOf, stampNumber, timeOf, timeFields, byteOf, oddFlag, contextOf, controlFields, numbers, machineOf, numbersOf};
 ghost use Rattle.numbers.specs.internal.Control.{controlFrom};
 use act::control::Control;
+use definition::state::SavedContext;
 use definition::state::Stamp;
 use definition::state::State;
 use definition::state::Time;
-use definition::state::Visit;
 use layout::sections::Layout;
 use layout::sections::Span;
 
@@ -94,31 +94,31 @@ fn has_odd_flag(fields: [u16; 5]) -> bool
 }
 
 // The visit; where a flag is odd, one of no frame.
-fn visit_of(fields: [u16; 5]) -> Visit
-    ensures { λ r. ⌜ r ≡ visitOf fields ⌝ }
+fn context_of(fields: [u16; 5]) -> SavedContext
+    ensures { λ r. ⌜ r ≡ contextOf fields ⌝ }
 {
     if has_odd_flag(fields) {
-        return Visit::Held {
+        return SavedContext::Held {
             previous: fields[3],
             age: 255,
         };
     }
     if fields[2] == 0 {
-        return Visit::Free;
+        return SavedContext::Unheld;
     }
-    Visit::Held {
+    SavedContext::Held {
         previous: fields[3],
         age: byte_of(fields[4]),
     }
 }
 
 // Previous address, halted, held, held previous address, held age.
-fn control_fields(previous: u16, halted: bool, visit: Visit) -> [u16; 5]
-    ensures { λ r. ⌜ r ≡ controlFields previous halted visit ⌝ }
+fn control_fields(previous: u16, halted: bool, context: SavedContext) -> [u16; 5]
+    ensures { λ r. ⌜ r ≡ controlFields previous halted context ⌝ }
 {
-    match visit {
-        Visit::Free => [previous, halted as u16, 0, 0, 0],
-        Visit::Held {
+    match context {
+        SavedContext::Unheld => [previous, halted as u16, 0, 0, 0],
+        SavedContext::Held {
             previous: held,
             age,
         } => [previous, halted as u16, 1, held, age as u16],
@@ -132,7 +132,7 @@ pub fn control_of(fields: [u16; 5], time: [u64; 3]) -> Control
     Control {
         previous: fields[0],
         time: time_of(time),
-        visit: visit_of(fields),
+        context: context_of(fields),
         halted: fields[1] != 0,
     }
 }
@@ -151,12 +151,12 @@ pub fn machine_of(
 
 // Hands back in the caller's numbers what a machine has beside its registers.
 pub fn hand_control(rest: Control, control: &mut [u16; 5], time: &mut [u64; 3])
-    ensures { λ _. ⌜ now (control .exit) ≡ controlFields (rest .previous) (rest .halted) (rest .visit) ⌝ }
+    ensures { λ _. ⌜ now (control .exit) ≡ controlFields (rest .previous) (rest .halted) (rest .context) ⌝ }
     ensures { λ _. ⌜ now (time .exit) ≡ timeFields (rest .time) ⌝ }
 {
-    let visit = rest.visit;
+    let context = rest.context;
     let t = rest.time;
-    *control = control_fields(rest.previous, rest.halted, visit);
+    *control = control_fields(rest.previous, rest.halted, context);
     *time = time_fields(t);
 }
 

@@ -1,2 +1,2 @@
 pub mod SheetLaws
-pub mod SoundLaws
+pub mod RunnableLaws

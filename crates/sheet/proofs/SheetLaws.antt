@@ -10,23 +10,24 @@ use lib.Dec.{eqb, ltb}
 use lib.ListN.{length, set, replicate, length-drop, length-set, length-replicate, drop-of-length-le}
 use lib.Seq.{sets, take-all}
 use borrow.Author.Tests.{ne-eqb, le-leb, ltb-true, ltb-false}
+use Rattle.base.specs.Limits.{memoryBytes, mostSheetBytes}
 use Rattle.base.specs.Test.{if_then_else_}
-use Rattle.base.specs.Word.{even}
-use Rattle.base.specs.declared.refusal.Refusal.the-variants.{Line as Unreadable}
+use Rattle.base.specs.Word.{dropBit0}
+use Rattle.base.specs.declared.refusal.Refusal.the-variants.{Line as LineRefusal}
 use Rattle.base.proofs.Tests.{cases, if-true, if-false}
 use Rattle.layout.specs.declared.sections.Layout.{Layout}
 use Rattle.definition.specs.Memory.{putWord}
-use Rattle.lines.specs.declared.line.Said.{Said}
-use Rattle.lines.specs.declared.line.Said.the-variants.{Layout as Layouts, Word, Stamp, Budget}
+use Rattle.lines.specs.declared.line.Content.{Content}
+use Rattle.lines.specs.declared.line.Content.the-variants.{Layout as Layouts, Word, Stamp, Budget}
 use Rattle.lines.specs.declared.line.Line.{Line}
-use Rattle.lines.specs.declared.line.Line.the-variants.{Is, Bad}
+use Rattle.lines.specs.declared.line.Line.the-variants.{Parsed, Unreadable}
 use Rattle.sheet.specs.declared.reader.Answer.{Answer}
 use Rattle.sheet.specs.declared.reader.Answer.the-variants.{Refused}
 use Rattle.sheet.specs.declared.reader.Stage.{Stage}
 use Rattle.sheet.specs.declared.reader.Stage.the-variants.{Goes, Stops}
 use Rattle.lines.specs.Text.{newline, find, head, rest}
-use Rattle.lines.specs.Line.{lineOf}
-use Rattle.sheet.specs.Sheet.{led, pieces, noneFollows, nothingFollows, stageOf, onStage, onLine, bodyFrom, firstOf, onFirst, linesAnswer, sheetAnswer, stored, memoryFrom, sheetMemory, stampOf, stampsFrom}
+use Rattle.lines.specs.Line.{parseLine}
+use Rattle.sheet.specs.Sheet.{prepended, pieces, noneFollows, nothingFollows, stageOf, unlessStopped, ifParsed, bodyFrom, firstOf, ifLayout, linesAnswer, sheetAnswer, sheetRefusal, refusedLine, SheetPromise, lineStored, memoryFrom, sheetMemory, stampOf, stampsFrom}
 
 -- ---- pieces
 
@@ -68,25 +69,25 @@ pieces-last (x ∷ xs) h =
     let g : length xs ≤ find xs newline = omega arith in
     if-false _ _ _ e ∙ rw (pieces-last xs g))
 
-led-filled : (x : ℕ) (ps : List (List ℕ)) → (noneFollows (led x ps) ≡ false) × (nothingFollows (led x ps) ≡ false)
-led-filled x [] = (refl, refl)
-led-filled x (p ∷ ps) = (refl, refl)
+prepended-filled : (x : ℕ) (ps : List (List ℕ)) → (noneFollows (prepended x ps) ≡ false) × (nothingFollows (prepended x ps) ≡ false)
+prepended-filled x [] = (refl, refl)
+prepended-filled x (p ∷ ps) = (refl, refl)
 
 -- there is always a piece, and it is empty and the last where the text is empty
 pub pieces-filled : (s : List ℕ) → noneFollows (pieces s) ≡ false
 unfolding pieces
 pieces-filled [] = refl
 pieces-filled (x ∷ xs) =
-    cases (eqb x newline) (λ e. rw (if-true _ ([] ∷ pieces xs) (led x (pieces xs)) e))
-    (λ e. rw (if-false _ ([] ∷ pieces xs) (led x (pieces xs)) e) (led-filled x (pieces xs) .0))
+    cases (eqb x newline) (λ e. rw (if-true _ ([] ∷ pieces xs) (prepended x (pieces xs)) e))
+    (λ e. rw (if-false _ ([] ∷ pieces xs) (prepended x (pieces xs)) e) (prepended-filled x (pieces xs) .0))
 
 pub pieces-nothing : (s : List ℕ) → nothingFollows (pieces s) ≡ eqb (length s) 0
 unfolding pieces
 pieces-nothing [] = refl
 pieces-nothing (x ∷ xs) =
     let z : nothingFollows (pieces (x ∷ xs)) ≡ false =
-    cases (eqb x newline) (λ e. rw (if-true _ ([] ∷ pieces xs) (led x (pieces xs)) e) (pieces-filled xs))
-    (λ e. rw (if-false _ ([] ∷ pieces xs) (led x (pieces xs)) e) (led-filled x (pieces xs) .1)) in
+    cases (eqb x newline) (λ e. rw (if-true _ ([] ∷ pieces xs) (prepended x (pieces xs)) e) (pieces-filled xs))
+    (λ e. rw (if-false _ ([] ∷ pieces xs) (prepended x (pieces xs)) e) (prepended-filled x (pieces xs) .1)) in
     z ∙ sym (ne-eqb (suc (length xs)) 0 (λ e. omega arith))
 
 -- a line and its newline are left behind
@@ -96,59 +97,59 @@ rest-shorter s h = rw (length-drop (find s newline + 1) s) (omega arith)
 -- ---- the lines after L
 
 module _ (L : Layout) (n last count : ℕ) (s : List ℕ) where
-  pub body-last : length s ≤ find s newline → bodyFrom L n last count (pieces s) ≡ Refused Unreadable n
+  pub body-last : length s ≤ find s newline → bodyFrom L n last count (pieces s) ≡ Refused LineRefusal n
   unfolding bodyFrom if_then_else_
   body-last h = rw (pieces-last s h)
 
   module _ (h : find s newline < length s) where
     body-here : bodyFrom L n last count (pieces s)
-        ≡ onLine n (lineOf (head s newline))
-        (λ said. onStage (stageOf L n last count said (eqb (length (rest s newline)) 0))
+        ≡ ifParsed n (parseLine (head s newline))
+        (λ content. unlessStopped (stageOf L n last count content (eqb (length (rest s newline)) 0))
         (λ l c. bodyFrom L (n + 1) l c (pieces (rest s newline))))
     unfolding bodyFrom
     body-here =
         rw (pieces-here s h)
         (if-false _ _ _ (pieces-filled (rest s newline)) ∙ rw (pieces-nothing (rest s newline)))
 
-    pub body-bad : lineOf (head s newline) ≡ Bad → bodyFrom L n last count (pieces s) ≡ Refused Unreadable n
-    body-bad e = body-here ∙ rw e
+    pub body-unreadable : parseLine (head s newline) ≡ Unreadable → bodyFrom L n last count (pieces s) ≡ Refused LineRefusal n
+    body-unreadable e = body-here ∙ rw e
 
-    module _ (said : Said) (e : lineOf (head s newline) ≡ Is said) where
-      body-said : bodyFrom L n last count (pieces s)
-          ≡ onStage (stageOf L n last count said (eqb (length (rest s newline)) 0))
+    module _ (content : Content) (e : parseLine (head s newline) ≡ Parsed content) where
+      body-content : bodyFrom L n last count (pieces s)
+          ≡ unlessStopped (stageOf L n last count content (eqb (length (rest s newline)) 0))
           (λ l c. bodyFrom L (n + 1) l c (pieces (rest s newline)))
-      body-said = body-here ∙ rw e
+      body-content = body-here ∙ rw e
 
-      pub body-stops : (a : Answer) → stageOf L n last count said (eqb (length (rest s newline)) 0) ≡ Stops a
+      pub body-stops : (a : Answer) → stageOf L n last count content (eqb (length (rest s newline)) 0) ≡ Stops a
           → bodyFrom L n last count (pieces s) ≡ a
-      body-stops a g = body-said ∙ rw g
+      body-stops a g = body-content ∙ rw g
 
-      pub body-goes : (l c : ℕ) → stageOf L n last count said (eqb (length (rest s newline)) 0) ≡ Goes l c
+      pub body-goes : (l c : ℕ) → stageOf L n last count content (eqb (length (rest s newline)) 0) ≡ Goes l c
           → bodyFrom L n last count (pieces s) ≡ bodyFrom L (n + 1) l c (pieces (rest s newline))
-      body-goes l c g = body-said ∙ rw g
+      body-goes l c g = body-content ∙ rw g
 
 -- ---- the first line
 
 module _ (s : List ℕ) where
-  pub first-last : length s ≤ find s newline → linesAnswer (pieces s) ≡ Refused Unreadable 1
+  pub first-last : length s ≤ find s newline → linesAnswer (pieces s) ≡ Refused LineRefusal 1
   unfolding linesAnswer if_then_else_
   first-last h = rw (pieces-last s h)
 
   pub first-here : find s newline < length s
       → linesAnswer (pieces s)
-      ≡ onLine 1 (lineOf (head s newline)) (λ said. onFirst (firstOf said) (λ L. bodyFrom L 2 0 0 (pieces (rest s newline))))
+      ≡ ifParsed 1 (parseLine (head s newline)) (λ content. ifLayout (firstOf content) (λ L. bodyFrom L 2 0 0 (pieces (rest s newline))))
   unfolding linesAnswer
   first-here h = rw (pieces-here s h) (if-false _ _ _ (pieces-filled (rest s newline)))
 
-  pub sheet-lines : length s ≤ 32768 → sheetAnswer s ≡ linesAnswer (pieces s)
+  pub sheet-lines : length s ≤ mostSheetBytes → sheetAnswer s ≡ linesAnswer (pieces s)
   unfolding sheetAnswer
   sheet-lines h = if-true _ _ _ (le-leb _ _ h)
 
 -- ---- the setup, a line at a time
 
 -- the empty line says nothing
-pub empty-line : lineOf [] ≡ Bad
-unfolding lineOf find if_then_else_
+pub empty-line : parseLine [] ≡ Unreadable
+unfolding parseLine find if_then_else_
 empty-line = refl
 
 -- whatever does not look at an empty last piece takes the first line, and then the rest
@@ -165,7 +166,7 @@ next-piece f none s =
 
 -- memory
 module _ (s mem : List ℕ) where
-  pub memory-next : memoryFrom mem (pieces s) ≡ memoryFrom (stored (lineOf (head s newline)) mem) (pieces (rest s newline))
+  pub memory-next : memoryFrom mem (pieces s) ≡ memoryFrom (lineStored (parseLine (head s newline)) mem) (pieces (rest s newline))
   unfolding memoryFrom
   memory-next = next-piece (memoryFrom mem) (λ p. rw empty-line) s
 
@@ -175,29 +176,25 @@ memory-end [] mem h = rw empty-line
 memory-end (x ∷ xs) mem h = absurd (omega arith)
 
 -- lines keep memory's length
-stored-length : (line : Line) (mem : List ℕ) → length (stored line mem) ≡ length mem
+stored-length : (line : Line) (mem : List ℕ) → length (lineStored line mem) ≡ length mem
 unfolding putWord
-stored-length Bad mem = refl
-stored-length (Is (Layouts L)) mem = refl
-stored-length (Is (Word a w)) mem = length-set (set mem (even a) (w % 256)) _ _ ∙ length-set mem _ _
-stored-length (Is (Stamp s)) mem = refl
-stored-length (Is (Budget b)) mem = refl
+stored-length Unreadable mem = refl
+stored-length (Parsed (Layouts L)) mem = refl
+stored-length (Parsed (Word a w)) mem = length-set (set mem (dropBit0 a) (w % 256)) _ _ ∙ length-set mem _ _
+stored-length (Parsed (Stamp s)) mem = refl
+stored-length (Parsed (Budget b)) mem = refl
 
 memory-length : (ps : List (List ℕ)) (mem : List ℕ) → length (memoryFrom mem ps) ≡ length mem
 unfolding memoryFrom
 memory-length [] mem = refl
-memory-length (p ∷ ps) mem = memory-length ps (stored (lineOf p) mem) ∙ stored-length (lineOf p) mem
+memory-length (p ∷ ps) mem = memory-length ps (lineStored (parseLine p) mem) ∙ stored-length (parseLine p) mem
 
-pub sheet-memory-length : (s : List ℕ) → length (sheetMemory s) ≡ 65536
+pub sheet-memory-length : (s : List ℕ) → length (sheetMemory s) ≡ memoryBytes
 unfolding sheetMemory
-sheet-memory-length s = memory-length (pieces s) (replicate 65536 0) ∙ length-replicate {A = ℕ} 65536 0
-
--- the rest of a text that is not empty is shorter
-pub rest-less : (s : List ℕ) → 0 < length s → length (rest s newline) < length s
-rest-less s h = rw (length-drop (find s newline + 1) s) (omega arith)
+sheet-memory-length s = memory-length (pieces s) (replicate memoryBytes 0) ∙ length-replicate {A = ℕ} memoryBytes 0
 
 -- the timetable
-pub stamps-next : (s : List ℕ) → stampsFrom (pieces s) ≡ stampOf (lineOf (head s newline)) (stampsFrom (pieces (rest s newline)))
+pub stamps-next : (s : List ℕ) → stampsFrom (pieces s) ≡ stampOf (parseLine (head s newline)) (stampsFrom (pieces (rest s newline)))
 unfolding stampsFrom
 stamps-next s = next-piece stampsFrom (λ p. rw empty-line) s
 
@@ -209,8 +206,13 @@ stamps-end (x ∷ xs) h = absurd (omega arith)
 -- what a line says is put behind what stands there, and the further stamps behind that
 pub stamp-sets : (line : Line) (ss buffer : List ℕ) (i : ℕ)
     → sets buffer i (stampOf line ss) ≡ sets (sets buffer i (stampOf line [])) (i + length (stampOf line [])) ss
-stamp-sets Bad ss buffer i = rw add-zero
-stamp-sets (Is (Layouts L)) ss buffer i = rw add-zero
-stamp-sets (Is (Word a w)) ss buffer i = rw add-zero
-stamp-sets (Is (Stamp s)) ss buffer i = rw add-one
-stamp-sets (Is (Budget b)) ss buffer i = rw add-zero
+stamp-sets Unreadable ss buffer i = rw add-zero
+stamp-sets (Parsed (Layouts L)) ss buffer i = rw add-zero
+stamp-sets (Parsed (Word a w)) ss buffer i = rw add-zero
+stamp-sets (Parsed (Stamp s)) ss buffer i = rw add-one
+stamp-sets (Parsed (Budget b)) ss buffer i = rw add-zero
+
+-- ---- what the reader promises
+
+pub sheet-promised : (sheet : List ℕ) (answer : Answer) → answer ≡ sheetAnswer sheet → SheetPromise sheet answer
+sheet-promised sheet answer e = record { result = e; number = ap sheetRefusal e; line = ap refusedLine e }

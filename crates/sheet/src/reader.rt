@@ -2,15 +2,20 @@
 ghost use mathlib.Core.Path.{_≡_};
 ghost use Prim.Native.Nat.{_≤_, _+_};
 ghost use lib.ListN.{length};
+ghost use Rattle.base.specs.Limits.{mostSheetBytes};
 ghost use Rattle.base.specs.Test.{if_then_else_};
 ghost use Rattle.base.specs.declared.refusal.Refusal.the-variants.{Timetable as TIMETABLE, Line as LINE};
 ghost use Rattle.sheet.specs.declared.reader.Answer.the-variants.{Refused as REFUSED};
 ghost use Rattle.sheet.specs.declared.reader.Stage.the-variants.{Goes as GOES, Stops as STOPS};
-ghost use Rattle.sheet.specs.Sheet.{pieces, fitsTimetable, budgetAnswer, stageOf, onStage, bodyFrom, firstOf, sheetAnswer};
+ghost use Rattle.sheet.specs.Sheet.{pieces, fitsTimetable, budgetAnswer, stageOf, unlessStopped, bodyFrom, firstOf, SheetPromise};
+use base::limits::LAST_CLOCK;
+use base::limits::MOST_BUDGET;
+use base::limits::MOST_SHEET_BYTES;
+use base::limits::MOST_STAMPS;
 use base::refusal::Refusal;
 use layout::sections::Layout;
+use lines::line::Content;
 use lines::line::Line;
-use lines::line::Said;
 use lines::line::read_line;
 use lines::text::head;
 use lines::text::holds_byte;
@@ -31,8 +36,8 @@ pub enum Answer {
 
 // What the first line says: a layout, or anything else.
 pub enum First {
-    Is(Layout),
-    Other,
+    IsLayout(Layout),
+    NoLayout,
 }
 
 // After a line: the last stamp and the number of stamps so far, or the answer.
@@ -45,15 +50,15 @@ pub enum Stage {
 fn fits_timetable(last: u64, count: u64, stamp: u64) -> bool
     ensures { λ r. ⌜ r ≡ fitsTimetable last count stamp ⌝ }
 {
-    count < 4096 && (last < stamp && stamp <= 0x4000_0000_0000_0000)
+    count < MOST_STAMPS as u64 && (last < stamp && stamp <= LAST_CLOCK)
 }
 
 // G at line n: nothing may follow it.
 fn budget_answer(layout: Layout, n: u64, count: u64, budget: u64, last: bool) -> Answer
-    requires { ⌜ n ≤ 65536 ⌝ }
+    requires { ⌜ n ≤ mostSheetBytes + 2 ⌝ }
     ensures { λ r. ⌜ r ≡ budgetAnswer layout n count budget last ⌝ }
 {
-    if budget > 1000000 {
+    if budget > MOST_BUDGET {
         return Answer::Refused(Refusal::Distance, n);
     }
     if last {
@@ -77,21 +82,21 @@ fn stamp_stage(n: u64, last: u64, count: u64, stamp: u64) -> Stage
 }
 
 // A line after the first, by what it says.
-fn read_stage(layout: Layout, n: u64, last: u64, count: u64, said: Said, nothing: bool) -> Stage
-    requires { ⌜ n ≤ 65536 ⌝ }
-    ensures { λ r. ⌜ r ≡ stageOf layout n last count said nothing ⌝ }
+fn read_stage(layout: Layout, n: u64, last: u64, count: u64, content: Content, ends: bool) -> Stage
+    requires { ⌜ n ≤ mostSheetBytes + 2 ⌝ }
+    ensures { λ r. ⌜ r ≡ stageOf layout n last count content ends ⌝ }
 {
-    match said {
-        Said::Layout(_) => Stage::Stops(Answer::Refused(Refusal::Line, n)),
-        Said::Word(_, _) => Stage::Goes(last, count),
-        Said::Stamp(s) => stamp_stage(n, last, count, s),
-        Said::Budget(b) => Stage::Stops(budget_answer(layout, n, count, b, nothing)),
+    match content {
+        Content::Layout(_) => Stage::Stops(Answer::Refused(Refusal::Line, n)),
+        Content::Word(_, _) => Stage::Goes(last, count),
+        Content::Stamp(s) => stamp_stage(n, last, count, s),
+        Content::Budget(b) => Stage::Stops(budget_answer(layout, n, count, b, ends)),
     }
 }
 
 // The answer of a stage that stops.
 fn stopped(stage: Stage) -> Answer
-    ensures { λ r. ⌜ r ≡ onStage stage (λ _. λ _. REFUSED LINE 0) ⌝ }
+    ensures { λ r. ⌜ r ≡ unlessStopped stage (λ _. λ _. REFUSED LINE 0) ⌝ }
 {
     match stage {
         Stage::Goes(_, _) => Answer::Refused(Refusal::Line, 0),
@@ -101,7 +106,7 @@ fn stopped(stage: Stage) -> Answer
 
 // The lines after L. Each line's answer is taken apart, and a bad one leaves with its number.
 fn read_body(layout: Layout, body: &[u8]) -> Answer
-    requires { ⌜ length (now body) ≤ 32768 ⌝ }
+    requires { ⌜ length (now body) ≤ mostSheetBytes ⌝ }
     ensures { λ r. ⌜ r ≡ bodyFrom layout 2 0 0 (pieces (now (body .entry))) ⌝ }
 {
     let mut left = body;
@@ -110,10 +115,10 @@ fn read_body(layout: Layout, body: &[u8]) -> Answer
     let mut count: u64 = 0;
     while holds_byte(left, b'\n') {
         let after = rest(left, b'\n');
-        let Line::Is(said) = read_line(head(left, b'\n')) else {
+        let Line::Parsed(content) = read_line(head(left, b'\n')) else {
             return Answer::Refused(Refusal::Line, n);
         };
-        let stage = read_stage(layout, n, last, count, said, after.len() == 0);
+        let stage = read_stage(layout, n, last, count, content, after.len() == 0);
         let Stage::Goes(l, c) = stage else {
             return stopped(stage);
         };
@@ -126,31 +131,31 @@ fn read_body(layout: Layout, body: &[u8]) -> Answer
 }
 
 // What is said, as of the first line.
-fn first_of(said: Said) -> First
-    ensures { λ r. ⌜ r ≡ firstOf said ⌝ }
+fn first_of(content: Content) -> First
+    ensures { λ r. ⌜ r ≡ firstOf content ⌝ }
 {
-    match said {
-        Said::Layout(layout) => First::Is(layout),
-        Said::Word(_, _) => First::Other,
-        Said::Stamp(_) => First::Other,
-        Said::Budget(_) => First::Other,
+    match content {
+        Content::Layout(layout) => First::IsLayout(layout),
+        Content::Word(_, _) => First::NoLayout,
+        Content::Stamp(_) => First::NoLayout,
+        Content::Budget(_) => First::NoLayout,
     }
 }
 
 // A sheet's answer.
 pub fn read_sheet(sheet: &[u8]) -> Answer
-    ensures { λ r. ⌜ r ≡ sheetAnswer (now (sheet .entry)) ⌝ }
+    ensures { λ r. ⌜ SheetPromise (now (sheet .entry)) r ⌝ }
 {
-    if sheet.len() > 32768 {
+    if sheet.len() > MOST_SHEET_BYTES {
         return Answer::Refused(Refusal::Sheet, 0);
     }
     if !holds_byte(sheet, b'\n') {
         return Answer::Refused(Refusal::Line, 1);
     }
-    let Line::Is(said) = read_line(head(sheet, b'\n')) else {
+    let Line::Parsed(content) = read_line(head(sheet, b'\n')) else {
         return Answer::Refused(Refusal::Line, 1);
     };
-    let First::Is(layout) = first_of(said) else {
+    let First::IsLayout(layout) = first_of(content) else {
         return Answer::Refused(Refusal::Line, 1);
     };
     if !layout.accepted() {

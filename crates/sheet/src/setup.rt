@@ -4,40 +4,33 @@ ghost use mathlib.Core.List.{[]};
 ghost use Prim.Native.Nat.{_≤_};
 ghost use lib.ListN.{length, set};
 ghost use lib.Seq.{sets};
-ghost use Rattle.definition.specs.Memory.{putWord};
-ghost use Rattle.sheet.specs.Sheet.{pieces, stored, memoryFrom, sheetMemory, stampOf, sheetStamps};
+ghost use Rattle.base.specs.Limits.{memoryBytes};
+ghost use Rattle.sheet.specs.Sheet.{pieces, lineStored, memoryFrom, sheetMemory, stampOf, sheetStamps};
+use act::memory::put_word;
+use base::limits::MEMORY_BYTES;
+use lines::line::Content;
 use lines::line::Line;
-use lines::line::Said;
 use lines::line::read_line;
 use lines::text::head;
 use lines::text::rest;
 
-// Puts a word at an address, whose bit 0 is dropped.
-fn put_word(mem: &mut [u8; 65536], a: u16, w: u16)
-    ensures { λ _. ⌜ now (mem .exit) ≡ putWord (now (mem .entry)) a w ⌝ }
-{
-    let e = (a / 2 * 2) as usize;
-    mem[e] = (w % 256) as u8;
-    mem[e + 1] = (w / 256 % 256) as u8;
-}
-
 // What a line puts into memory.
-fn store_line(mem: &mut [u8; 65536], line: Line)
-    ensures { λ _. ⌜ now (mem .exit) ≡ stored line (now (mem .entry)) ⌝ }
+fn store_line(mem: &mut [u8; MEMORY_BYTES], line: Line)
+    ensures { λ _. ⌜ now (mem .exit) ≡ lineStored line (now (mem .entry)) ⌝ }
 {
     match line {
-        Line::Bad => {}
-        Line::Is(said) => match said {
-            Said::Layout(_) => {}
-            Said::Word(a, w) => put_word(mem, a, w),
-            Said::Stamp(_) => {}
-            Said::Budget(_) => {}
+        Line::Unreadable => {}
+        Line::Parsed(content) => match content {
+            Content::Layout(_) => {}
+            Content::Word(a, w) => put_word(mem, a, w),
+            Content::Stamp(_) => {}
+            Content::Budget(_) => {}
         },
     }
 }
 
 // The words of the M lines, in order.
-fn store_lines(mem: &mut [u8; 65536], sheet: &[u8])
+fn store_lines(mem: &mut [u8; MEMORY_BYTES], sheet: &[u8])
     ensures { λ _. ⌜ now (mem .exit) ≡ memoryFrom (now (mem .entry)) (pieces (now (sheet .entry))) ⌝ }
 {
     let mut left = sheet;
@@ -50,11 +43,11 @@ fn store_lines(mem: &mut [u8; 65536], sheet: &[u8])
 }
 
 // The sheet's memory: the words of the M lines, and 0 elsewhere.
-pub fn load_memory(mem: &mut [u8; 65536], sheet: &[u8])
+pub fn load_memory(mem: &mut [u8; MEMORY_BYTES], sheet: &[u8])
     ensures { λ _. ⌜ now (mem .exit) ≡ sheetMemory (now (sheet .entry)) ⌝ }
-    ensures { λ _. ⌜ 65536 ≡ length (now (mem .exit)) ⌝ }
+    ensures { λ _. ⌜ memoryBytes ≡ length (now (mem .exit)) ⌝ }
 {
-    *mem = [0; 65536];
+    *mem = [0; MEMORY_BYTES];
     store_lines(mem, sheet);
 }
 
@@ -68,16 +61,16 @@ fn put_stamp(stamps: &mut [u64], i: usize, stamp: u64)
 }
 
 // How many stamps a line says: one, or none.
-fn stamps_said(line: Line) -> usize
+fn stamp_count(line: Line) -> usize
     ensures { λ r. ⌜ (r ≡ length (stampOf line [])) × (r ≤ 1) ⌝ }
 {
     match line {
-        Line::Bad => 0,
-        Line::Is(said) => match said {
-            Said::Layout(_) => 0,
-            Said::Word(_, _) => 0,
-            Said::Stamp(_) => 1,
-            Said::Budget(_) => 0,
+        Line::Unreadable => 0,
+        Line::Parsed(content) => match content {
+            Content::Layout(_) => 0,
+            Content::Word(_, _) => 0,
+            Content::Stamp(_) => 1,
+            Content::Budget(_) => 0,
         },
     }
 }
@@ -87,12 +80,12 @@ fn append_line(stamps: &mut [u64], i: usize, line: Line)
     ensures { λ _. ⌜ now (stamps .exit) ≡ sets (now (stamps .entry)) i (stampOf line []) ⌝ }
 {
     match line {
-        Line::Bad => {}
-        Line::Is(said) => match said {
-            Said::Layout(_) => {}
-            Said::Word(_, _) => {}
-            Said::Stamp(s) => put_stamp(stamps, i, s),
-            Said::Budget(_) => {}
+        Line::Unreadable => {}
+        Line::Parsed(content) => match content {
+            Content::Layout(_) => {}
+            Content::Word(_, _) => {}
+            Content::Stamp(s) => put_stamp(stamps, i, s),
+            Content::Budget(_) => {}
         },
     }
 }
@@ -108,6 +101,6 @@ pub fn load_stamps(stamps: &mut [u64], sheet: &[u8])
         let after = rest(left, b'\n');
         append_line(stamps, count, line);
         left = after;
-        count += stamps_said(line);
+        count += stamp_count(line);
     }
 }

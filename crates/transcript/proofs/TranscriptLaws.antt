@@ -44,9 +44,9 @@ module _ {entry exit : List ℕ} {at to : ℕ} where
       → Put entry exit at to (decimalBytes n)
   decimal-put n most p = record { ends = p .0; lies = p .1 .1 }
 
-  pub word-put : (w : ℕ) → (to ≡ at + 5) × (exit ≡ sets entry at (tab ∷ hexBytes w)) → Put entry exit at to (tab ∷ hexBytes w)
+  pub hex-field-put : (w : ℕ) → (to ≡ at + 5) × (exit ≡ sets entry at (tab ∷ hexBytes w)) → Put entry exit at to (tab ∷ hexBytes w)
   unfolding hexBytes
-  word-put w p = record { ends = p .0; lies = p .1 }
+  hex-field-put w p = record { ends = p .0; lies = p .1 }
 
 -- a digit put before those that stand
 pub drop-put : (text : List ℕ) (i b : ℕ) → 0 < i → i ≤ length text → drop (i - 1) (set text (i - 1) b) ≡ b ∷ drop i text

@@ -81,7 +81,7 @@ fn hex_byte(d: u8) -> u8
 }
 
 // Puts a tab and a word's four hexadecimal digits.
-fn put_word(out: &mut [u8], at: usize, w: u16) -> usize
+fn put_hex_field(out: &mut [u8], at: usize, w: u16) -> usize
     requires { ⌜ at ≤ 900 ⌝ }
     ensures { λ r. ⌜ (r ≡ at + 5) × (now (out .exit) ≡ sets (now (out .entry)) at (tab ∷ hexBytes w)) ⌝ }
 {
@@ -101,8 +101,8 @@ pub fn step_line(out: &mut [u8], n: u64, kind: Outcome, clock: u64, pc: u16, sr:
     let c = put_byte(out, b, kind.letter());
     let d = put_byte(out, c, b'\t');
     let e = put_decimal(out, d, clock);
-    let f = put_word(out, e, pc);
-    let g = put_word(out, f, sr);
+    let f = put_hex_field(out, e, pc);
+    let g = put_hex_field(out, f, sr);
     put_byte(out, g, b'\n')
 }
 

@@ -5,7 +5,7 @@ use mathlib.Core.List.{List}
 use lib.Dec.{eqb}
 use lib.ListN.{getD}
 use Rattle.act.specs.declared.control.Control.{Control}
-use Rattle.numbers.specs.State.{timeOf, visitOf}
+use Rattle.numbers.specs.State.{timeOf, contextOf}
 
 -- what the machine has beside its registers, of the five numbers and the time's three
 abbrev pub controlFrom : List ℕ → List ℕ → Control
@@ -13,6 +13,6 @@ controlFrom fields time =
     record {
       previous = getD fields 0 0;
       time = timeOf time;
-      visit = visitOf fields;
+      context = contextOf fields;
       halted = not (eqb (getD fields 1 0) 0);
     }

@@ -36,7 +36,7 @@ returns : tie.Need-returns
 returns c =
     let a = c .before .before .before .before .before .before .before .before .before .before .before .before .before .before .before .before .before .before .args in
     let s = c .before .before .before .before .before .before .before .run .ensures in
-    run-refused (numbers (now (a .registers)) (now (a .saved)) (now (a .control)) (now (a .time))) _ _ _ _ (c .before .before .before .before .before .before .before .before .layout-of .ensures) _ (c .before .before .before .before .before .before .before .before .before .before .before .machine-of .ensures) _ _ _ (s .0) (s .1 .0) (c .before .before .answer .given .0 .0) (c .before .before .answer .given .1) _ (c .number .ensures) _ _
+    run-refused (numbers (now (a .registers)) (now (a .saved)) (now (a .control)) (now (a .time))) _ _ _ _ (c .before .before .before .before .before .before .before .before .layout-of .ensures) _ (c .before .before .before .before .before .before .before .before .before .before .before .machine-of .ensures) _ _ _ _ s (c .before .before .answer .given .0 .0) (c .before .before .answer .given .1) _ (c .number .ensures) _ _
 
 same-length-2 : tie.Need-same-length-2
 same-length-2 c = search needs
@@ -45,7 +45,7 @@ returns-2 : tie.Need-returns-2
 returns-2 c =
     let a = c .before .before .before .before .before .before .before .before .before .before .before .before .before .before .before .before .before .before .before .before .before .before .before .args in
     let s = c .before .before .before .before .before .before .before .before .before .before .before .before .run .ensures in
-    run-taken (numbers (now (a .registers)) (now (a .saved)) (now (a .control)) (now (a .time))) _ _ _ _ (c .before .before .before .before .before .before .before .before .before .before .before .before .before .layout-of .ensures) _ (c .before .before .before .before .before .before .before .before .before .before .before .before .before .before .before .before .machine-of .ensures) _ _ _ (s .0) (s .1 .0) (c .before .before .before .before .before .before .before .answer2 .given .0 .0) (c .before .before .before .before .before .before .before .answer2 .given .0 .1 .0) (c .before .before .before .before .before .before .before .answer2 .given .1) _ (c .before .hand-back .ensures) _ _ _ (c .letter .ensures)
+    run-taken (numbers (now (a .registers)) (now (a .saved)) (now (a .control)) (now (a .time))) _ _ _ _ (c .before .before .before .before .before .before .before .before .before .before .before .before .before .layout-of .ensures) _ (c .before .before .before .before .before .before .before .before .before .before .before .before .before .before .before .before .machine-of .ensures) _ _ _ _ s (c .before .before .before .before .before .before .before .answer2 .given .0 .0) (c .before .before .before .before .before .before .before .answer2 .given .0 .1 .0) (c .before .before .before .before .before .before .before .answer2 .given .1) _ (c .before .hand-back .ensures) _ _ _ (c .letter .ensures)
 
 pub enclave-run-spec : {M : Type 1} → statement M
 enclave-run-spec =

@@ -23,12 +23,12 @@ hand-back-requires c κs = search needs
 returns : tie.Need-returns
 returns c =
     let a = c .before .before .before .before .before .before .before .args in
-    start-refused (numbers (now (a .registers)) (now (a .saved)) (now (a .control)) (now (a .time))) _ _ (c .before .before .before .before .before .start .ensures .0) (c .before .before .answer .given .0 .0) (c .before .before .answer .given .1) _ (c .number .ensures)
+    start-refused (numbers (now (a .registers)) (now (a .saved)) (now (a .control)) (now (a .time))) _ _ _ (c .before .before .before .before .before .start .ensures) (c .before .before .answer .given .0 .0) (c .before .before .answer .given .1) _ (c .number .ensures)
 
 returns-2 : tie.Need-returns-2
 returns-2 c =
     let a = c .before .before .before .before .before .before .before .before .before .before .args in
-    start-taken (numbers (now (a .registers)) (now (a .saved)) (now (a .control)) (now (a .time))) _ _ (c .before .before .before .before .before .before .before .before .start .ensures .0) (c .before .before .before .before .before .enum-told .given .1) _ (c .hand-back .ensures)
+    start-taken (numbers (now (a .registers)) (now (a .saved)) (now (a .control)) (now (a .time))) _ _ _ (c .before .before .before .before .before .before .before .before .start .ensures) (c .before .before .before .before .before .enum-told .given .1) _ (c .hand-back .ensures)
 
 pub enclave-start-spec : {M : Type 1} → statement M
 enclave-start-spec =

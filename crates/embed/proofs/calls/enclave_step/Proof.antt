@@ -12,8 +12,8 @@ control-of-requires c κs = search needs
 layout-of-requires : tie.Need-layout-of-requires
 layout-of-requires c κs = search needs
 
-lent-step-requires : tie.Need-lent-step-requires
-lent-step-requires c κs = search needs
+step-in-place-requires : tie.Need-step-in-place-requires
+step-in-place-requires c κs = search needs
 
 enum-known-answer : tie.Need-enum-known-answer
 enum-known-answer c = search needs
@@ -39,11 +39,11 @@ same-length c = search needs
 returns : tie.Need-returns
 returns c =
     let a = c .before .before .before .before .before .before .before .before .before .before .before .before .before .before .before .before .before .before .args in
-    let s = c .before .before .before .before .before .before .before .lent-step .ensures in
+    let s = c .before .before .before .before .before .before .before .step-in-place .ensures in
     step-refused (numbers (now (a .registers)) (now (a .saved)) (now (a .control)) (now (a .time))) _ _ _ _ (c .before .before .before .before .before .before .before .before .layout-of .ensures) _
-    (lent-machine (now (a .registers)) (now (a .saved)) (now (a .control)) (now (a .time)) _ (c .before .before .before .before .before .before .before .before .before .before .before .before .before .control-of .ensures)) _ _ (s .0) (s .1 .0)
+    (lent-machine (now (a .registers)) (now (a .saved)) (now (a .control)) (now (a .time)) _ (c .before .before .before .before .before .before .before .before .before .before .before .before .before .control-of .ensures)) _ _ _ s
     (c .before .before .answer .given .0 .0) (c .before .before .answer .given .1) _ (c .number .ensures) _
-    (lent-untouched _ _ _ _ _ _ _ _ _ _ _ _ (c .before .before .answer .given .1) (s .1 .1 .1)) _ _
+    (lent-untouched _ _ _ _ _ _ _ _ _ _ _ _ (c .before .before .answer .given .1) (s .refused)) _ _
 
 same-length-2 : tie.Need-same-length-2
 same-length-2 c = search needs
@@ -51,10 +51,10 @@ same-length-2 c = search needs
 returns-2 : tie.Need-returns-2
 returns-2 c =
     let a = c .before .before .before .before .before .before .before .before .before .before .before .before .before .before .before .before .before .before .before .before .before .before .args in
-    let s = c .before .before .before .before .before .before .before .before .before .before .before .lent-step .ensures in
+    let s = c .before .before .before .before .before .before .before .before .before .before .before .step-in-place .ensures in
     let h = c .before .before .hand-control .ensures in
     step-taken (numbers (now (a .registers)) (now (a .saved)) (now (a .control)) (now (a .time))) _ _ _ _ (c .before .before .before .before .before .before .before .before .before .before .before .before .layout-of .ensures) _
-    (lent-machine (now (a .registers)) (now (a .saved)) (now (a .control)) (now (a .time)) _ (c .before .before .before .before .before .before .before .before .before .before .before .before .before .before .before .before .before .control-of .ensures)) _ _ (s .0) (s .1 .0)
+    (lent-machine (now (a .registers)) (now (a .saved)) (now (a .control)) (now (a .time)) _ (c .before .before .before .before .before .before .before .before .before .before .before .before .before .before .before .before .before .control-of .ensures)) _ _ _ s
     (c .before .before .before .before .before .before .answer2 .given .0 .0) (c .before .before .before .before .before .before .answer2 .given .1) _ (lent-numbers _ _ _ _ _ (h .0) (h .1)) _ _ _ _
     (c .before .letter .ensures) (c .cause-of .ensures)
 
@@ -64,7 +64,7 @@ enclave-step-spec =
     (tie.spec
     control-of-requires
     layout-of-requires
-    lent-step-requires
+    step-in-place-requires
     enum-known-answer
     number-requires
     enum-known-answer-2

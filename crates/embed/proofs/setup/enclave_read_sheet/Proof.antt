@@ -1,5 +1,6 @@
 use mathlib.Core.Path.{refl, sym, _∙_, ap}
-use Rattle.embed.specs.Setup.{sheetRefusal, refusedLine, setLayout, setCount, setBudget}
+use Rattle.sheet.specs.Sheet.{refusedLine, sheetRefusal}
+use Rattle.embed.specs.Setup.{setLayout, setCount, setBudget}
 use Rattle.embed.proofs.KeptLaws.{kept, given}
 use borrow.Author.Needs.{needs}
 use Rattle.embed.proofs.setup.enclave_read_sheet.Statement.{statement}
@@ -28,31 +29,31 @@ layout-fields-requires c κs = search needs
 
 returns : tie.Need-returns
 returns c =
-    let e = sym (c .before .before .refusal .given .1) ∙ c .before .before .before .before .read-sheet .ensures in
+    let e = sym (c .before .before .refusal .given .1) ∙ c .before .before .before .before .read-sheet .ensures .result in
     let n = c .number .ensures in
-    let r = c .before .before .refusal .given .0 .0 in (
-      n ∙ ap sheetRefusal e,
-      (
-        kept _ r n _ _,
-        (kept _ r n _ _, (kept _ r n _ _, (kept _ r n _ _, (kept _ r n _ _, ap refusedLine e ∙ kept _ r n _ _)))),
-      ),
-    )
+    let r = c .before .before .refusal .given .0 .0 in
+    record {
+      number = n ∙ ap sheetRefusal e;
+      memory = kept _ r n _ _;
+      stamps = kept _ r n _ _;
+      layout = kept _ r n _ _;
+      count = kept _ r n _ _;
+      budget = kept _ r n _ _;
+      line = ap refusedLine e ∙ kept _ r n _ _;
+    }
 
 returns-2 : tie.Need-returns-2
 returns-2 c =
-    let e = sym (c .before .before .before .before .before .before .setup .given .1) ∙ c .before .before .before .before .before .before .before .before .read-sheet .ensures in (
-      ap sheetRefusal e,
-      (
-        given _ _ (c .before .before .before .load-memory .ensures .0),
-        (
-          given _ _ (c .before .load-stamps .ensures),
-          (
-            given _ _ (c .layout-fields .ensures ∙ ap setLayout e),
-            (given _ _ (ap setCount e), (given _ _ (ap setBudget e), given _ _ refl)),
-          ),
-        ),
-      ),
-    )
+    let e = sym (c .before .before .before .before .before .before .setup .given .1) ∙ c .before .before .before .before .before .before .before .before .read-sheet .ensures .result in
+    record {
+      number = ap sheetRefusal e;
+      memory = given _ _ (c .before .before .before .load-memory .ensures .0);
+      stamps = given _ _ (c .before .load-stamps .ensures);
+      layout = given _ _ (c .layout-fields .ensures ∙ ap setLayout e);
+      count = given _ _ (ap setCount e);
+      budget = given _ _ (ap setBudget e);
+      line = given _ _ refl;
+    }
 
 pub enclave-read-sheet-spec : {M : Type 1} → statement M
 enclave-read-sheet-spec =

@@ -5,7 +5,7 @@ use lib.ListN.{length, drop}
 use borrow.Author.Tests.{eq-eqb, ne-eqb}
 use Rattle.base.specs.Test.{if_then_else_}
 use Rattle.lines.specs.Number.{digitsFrom, decimalOf}
-use Rattle.lines.proofs.NumberLaws.{digit-within, digits-bad, digits-full, digits-more, digits-end}
+use Rattle.lines.proofs.NumberLaws.{digit-within, digits-unreadable, digits-full, digits-more, digits-end}
 use borrow.Author.Needs.{needs}
 use Rattle.lines.proofs.number.read_decimal.Statement.{statement}
 use Rattle.lines.proofs.number.read_decimal.Tie as tie
@@ -46,7 +46,7 @@ enum-told c = search needs
 returns-3 : tie.Need-returns-3 Inv-loop μ-loop
 returns-3 c =
     let l = c .before .before .before .before .before .loop in
-    sym (l .inv .1 ∙ digits-bad _ _ _ (c .before .before .before .before .loop-test .taken) (sym (c .before .before .decimal-digit .ensures .0) ∙ c .enum-told .given .1))
+    sym (l .inv .1 ∙ digits-unreadable _ _ _ (c .before .before .before .before .loop-test .taken) (sym (c .before .before .decimal-digit .ensures .0) ∙ c .enum-told .given .1))
 
 returns-4 : tie.Need-returns-4 Inv-loop μ-loop
 returns-4 c =

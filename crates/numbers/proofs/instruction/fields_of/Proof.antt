@@ -6,8 +6,8 @@ use Rattle.numbers.proofs.instruction.fields_of.Tie as tie
 encoding-of-requires : tie.Need-encoding-of-requires
 encoding-of-requires c κs = search needs
 
-place-of-requires : tie.Need-place-of-requires
-place-of-requires c κs = search needs
+row-index-requires : tie.Need-row-index-requires
+row-index-requires c κs = search needs
 
 cast-t5 : tie.Need-cast-t5
 cast-t5 c = search needs
@@ -17,8 +17,8 @@ cast-t6 c = search needs
 
 returns : tie.Need-returns
 unfolding fieldsOf
-returns c = simp (c .before .before .place-of .ensures, c .before .before .before .encoding-of .ensures)
+returns c = simp (c .before .before .row-index .ensures, c .before .before .before .encoding-of .ensures)
 
 pub fields-of-spec : {M : Type 1} → statement M
 fields-of-spec =
-    tie.close (tie.spec encoding-of-requires place-of-requires cast-t5 cast-t6 returns)
+    tie.close (tie.spec encoding-of-requires row-index-requires cast-t5 cast-t6 returns)

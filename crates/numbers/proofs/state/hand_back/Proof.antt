@@ -1,6 +1,6 @@
 use mathlib.Core.Path.{_∙_, ap}
 use Rattle.act.specs.declared.control.Control.{Control}
-use Rattle.act.specs.Control.{joined}
+use Rattle.act.specs.Control.{withRegisters}
 use Rattle.numbers.specs.State.{numbersOf}
 use Rattle.numbers.proofs.LentLaws.{lent-numbers}
 use borrow.Author.Needs.{needs}
@@ -18,7 +18,7 @@ returns c =
     let m = c .before .before .before .before .before .before .args .m in
     let h = c .hand-control .ensures in
     lent-numbers _ _ _ _ _ (h .0) (h .1)
-    ∙ ap (λ (z : Control). numbersOf (joined (m .registers) (m .saved) z)) (c .before .before .before .of .ensures)
+    ∙ ap (λ (z : Control). numbersOf (withRegisters (m .registers) (m .saved) z)) (c .before .before .before .of .ensures)
 
 pub hand-back-spec : {M : Type 1} → statement M
 hand-back-spec = tie.close (tie.spec of-requires hand-control-requires returns)

@@ -2,8 +2,8 @@ use borrow.Author.Needs.{needs}
 use Rattle.sheet.proofs.reader.first_of.Statement.{statement}
 use Rattle.sheet.proofs.reader.first_of.Tie as tie
 
-enum-known-said : tie.Need-enum-known-said
-enum-known-said c = search needs
+enum-known-content : tie.Need-enum-known-content
+enum-known-content c = search needs
 
 enum-told : tie.Need-enum-told
 enum-told c = search needs
@@ -15,7 +15,7 @@ enum-told-3 : tie.Need-enum-told-3
 enum-told-3 c = search needs
 
 returns : tie.Need-returns
-returns c = simp (c .before .said .given .1)
+returns c = simp (c .before .content .given .1)
 
 returns-2 : tie.Need-returns-2
 returns-2 c = search needs
@@ -30,7 +30,7 @@ pub first-of-spec : {M : Type 1} → statement M
 first-of-spec =
     tie.close
     (tie.spec
-    enum-known-said
+    enum-known-content
     enum-told
     enum-told-2
     enum-told-3

@@ -5,7 +5,7 @@ use denote.Ref.{now}
 use lib.ListN.{length}
 use borrow.Author.Tests.{ltb-true, ltb-false}
 use Rattle.sheet.specs.Sheet.{pieces, bodyFrom}
-use Rattle.sheet.proofs.SheetLaws.{rest-shorter, body-last, body-bad, body-stops, body-goes}
+use Rattle.sheet.proofs.SheetLaws.{rest-shorter, body-last, body-unreadable, body-stops, body-goes}
 use borrow.Author.Needs.{needs}
 use Rattle.sheet.proofs.reader.read_body.Statement.{statement}
 use Rattle.sheet.proofs.reader.read_body.Tie as tie
@@ -32,8 +32,8 @@ head-requires c κs = search needs
 read-line-requires : tie.Need-read-line-requires Inv-loop μ-loop
 read-line-requires c κs = search needs
 
-enum-known-said : tie.Need-enum-known-said Inv-loop μ-loop
-enum-known-said c = search needs
+enum-known-content : tie.Need-enum-known-content Inv-loop μ-loop
+enum-known-content c = search needs
 
 enum-told : tie.Need-enum-told Inv-loop μ-loop
 enum-told c = search needs
@@ -41,7 +41,7 @@ enum-told c = search needs
 returns : tie.Need-returns Inv-loop μ-loop
 returns c =
     let l = c .before .before .before .before .before .before .before .loop in
-    sym (l .inv .1 ∙ body-bad _ _ _ _ (now (l .left)) (ltb-true _ _ (sym (c .before .before .before .before .before .before .holds-byte .ensures) ∙ c .before .before .before .before .before .if1 .taken)) (simp (c .before .before .before .head .ensures) at (sym (c .before .before .read-line .ensures) ∙ c .enum-told .given .1)))
+    sym (l .inv .1 ∙ body-unreadable _ _ _ _ (now (l .left)) (ltb-true _ _ (sym (c .before .before .before .before .before .before .holds-byte .ensures) ∙ c .before .before .before .before .before .if1 .taken)) (simp (c .before .before .before .head .ensures) at (sym (c .before .before .read-line .ensures) ∙ c .enum-told .given .1)))
 
 read-stage-requires : tie.Need-read-stage-requires Inv-loop μ-loop
 read-stage-requires c κs = let i = c .before .before .before .before .before .before .before .before .loop .inv .0 in omega arith
@@ -60,7 +60,7 @@ returns-2 c =
     let l = c .before .before .before .before .before .before .before .before .before .before .before .before .loop in
     simp (c .stopped .ensures, c .before .enum-told2 .given .1)
     (sym (l .inv .1
-    ∙ body-stops _ _ _ _ (now (l .left)) (ltb-true _ _ (sym (c .before .before .before .before .before .before .before .before .before .before .before .holds-byte .ensures) ∙ c .before .before .before .before .before .before .before .before .before .before .if1 .taken)) _ (simp (c .before .before .before .before .before .before .before .before .head .ensures) at (sym (c .before .before .before .before .before .before .before .read-line .ensures) ∙ c .before .before .before .before .before .said .given .1)) _ (simp (c .before .before .before .before .before .before .before .before .before .rest .ensures) at (sym (c .before .before .before .read-stage .ensures) ∙ c .before .enum-told2 .given .1))))
+    ∙ body-stops _ _ _ _ (now (l .left)) (ltb-true _ _ (sym (c .before .before .before .before .before .before .before .before .before .before .before .holds-byte .ensures) ∙ c .before .before .before .before .before .before .before .before .before .before .if1 .taken)) _ (simp (c .before .before .before .before .before .before .before .before .head .ensures) at (sym (c .before .before .before .before .before .before .before .read-line .ensures) ∙ c .before .before .before .before .before .content .given .1)) _ (simp (c .before .before .before .before .before .before .before .before .before .rest .ensures) at (sym (c .before .before .before .read-stage .ensures) ∙ c .before .enum-told2 .given .1))))
 
 add-n : tie.Need-add-n Inv-loop μ-loop
 add-n c = let i = c .before .before .before .before .before .before .before .before .before .before .before .before .loop .inv .0 in omega arith
@@ -78,7 +78,7 @@ loop-again c =
     let r = rest-shorter (now (l .left)) h in
     let i = l .inv .0 in
     simp (c .before .before .before .before .before .before .before .before .before .rest .ensures)
-    (omega arith, l .inv .1 ∙ body-goes _ _ _ _ (now (l .left)) h _ (simp (c .before .before .before .before .before .before .before .before .head .ensures) at (sym (c .before .before .before .before .before .before .before .read-line .ensures) ∙ c .before .before .before .before .before .said .given .1)) _ _ (simp (c .before .before .before .before .before .before .before .before .before .rest .ensures) at (sym (c .before .before .before .read-stage .ensures) ∙ c .before .stage .given .1)))
+    (omega arith, l .inv .1 ∙ body-goes _ _ _ _ (now (l .left)) h _ (simp (c .before .before .before .before .before .before .before .before .head .ensures) at (sym (c .before .before .before .before .before .before .before .read-line .ensures) ∙ c .before .before .before .before .before .content .given .1)) _ _ (simp (c .before .before .before .before .before .before .before .before .before .rest .ensures) at (sym (c .before .before .before .read-stage .ensures) ∙ c .before .stage .given .1)))
 
 returns-3 : tie.Need-returns-3 Inv-loop μ-loop
 returns-3 c =
@@ -96,7 +96,7 @@ read-body-spec =
     rest-requires
     head-requires
     read-line-requires
-    enum-known-said
+    enum-known-content
     enum-told
     returns
     read-stage-requires

@@ -5,14 +5,14 @@ use borrow.Author.Tests.{ltb-true, ltb-false, lt-leb}
 use Rattle.base.specs.Test.{if_then_else_}
 use Rattle.base.proofs.Tests.{fails, holds}
 use Rattle.sheet.specs.Sheet.{sheetAnswer}
-use Rattle.sheet.proofs.SheetLaws.{rest-shorter, first-last, first-here, sheet-lines}
+use Rattle.sheet.proofs.SheetLaws.{rest-shorter, first-last, first-here, sheet-lines, sheet-promised}
 use borrow.Author.Needs.{needs}
 use Rattle.sheet.proofs.reader.read_sheet.Statement.{statement}
 use Rattle.sheet.proofs.reader.read_sheet.Tie as tie
 
 returns : tie.Need-returns
 unfolding sheetAnswer if_then_else_
-returns c = simp (lt-leb _ _ (c .if1 .taken))
+returns c = sheet-promised _ _ (simp (lt-leb _ _ (c .if1 .taken)))
 
 holds-byte-requires : tie.Need-holds-byte-requires
 holds-byte-requires c κs = search needs
@@ -20,7 +20,7 @@ holds-byte-requires c κs = search needs
 returns-2 : tie.Need-returns-2
 returns-2 c =
     let s = now (c .before .before .before .before .args .sheet) in
-    sym (sheet-lines s (c .before .before .if1 .left) ∙ first-last s (ltb-false _ _ (fails (c .before .holds-byte .ensures) (c .if2 .taken))))
+    sheet-promised _ _ (sym (sheet-lines s (c .before .before .if1 .left) ∙ first-last s (ltb-false _ _ (fails (c .before .holds-byte .ensures) (c .if2 .taken)))))
 
 head-requires : tie.Need-head-requires
 head-requires c κs = search needs
@@ -28,8 +28,8 @@ head-requires c κs = search needs
 read-line-requires : tie.Need-read-line-requires
 read-line-requires c κs = search needs
 
-enum-known-said : tie.Need-enum-known-said
-enum-known-said c = search needs
+enum-known-content : tie.Need-enum-known-content
+enum-known-content c = search needs
 
 enum-told : tie.Need-enum-told
 enum-told c = search needs
@@ -40,7 +40,7 @@ returns-3 c =
     let h = ltb-true _ _ (holds (c .before .before .before .before .before .holds-byte .ensures) (c .before .before .before .before .if2 .left)) in
     let e = sheet-lines s (c .before .before .before .before .before .before .if1 .left) ∙ first-here s h in
     let t = (simp (c .before .before .before .head .ensures) at (sym (c .before .before .read-line .ensures) ∙ c .enum-told .given .1)) in
-    sym (e ∙ rw t)
+    sheet-promised _ _ (sym (e ∙ rw t))
 
 first-of-requires : tie.Need-first-of-requires
 first-of-requires c κs = search needs
@@ -56,9 +56,9 @@ returns-4 c =
     let s = now (c .before .before .before .before .before .before .before .before .before .before .before .before .args .sheet) in
     let h = ltb-true _ _ (holds (c .before .before .before .before .before .before .before .before .before .holds-byte .ensures) (c .before .before .before .before .before .before .before .before .if2 .left)) in
     let e = sheet-lines s (c .before .before .before .before .before .before .before .before .before .before .if1 .left) ∙ first-here s h in
-    let t = (simp (c .before .before .before .before .before .before .before .head .ensures) at (sym (c .before .before .before .before .before .before .read-line .ensures) ∙ c .before .before .before .before .said .given .1)) in
+    let t = (simp (c .before .before .before .before .before .before .before .head .ensures) at (sym (c .before .before .before .before .before .before .read-line .ensures) ∙ c .before .before .before .before .content .given .1)) in
     let u = sym (c .before .before .first-of .ensures) ∙ c .enum-told2 .given .1 in
-    sym (e ∙ rw (t, u))
+    sheet-promised _ _ (sym (e ∙ rw (t, u)))
 
 accepted-requires : tie.Need-accepted-requires
 accepted-requires c κs = search needs
@@ -69,9 +69,9 @@ returns-5 c =
     let s = now (c .before .before .before .before .before .before .before .before .before .before .before .before .before .before .before .args .sheet) in
     let h = ltb-true _ _ (holds (c .before .before .before .before .before .before .before .before .before .before .before .before .holds-byte .ensures) (c .before .before .before .before .before .before .before .before .before .before .before .if2 .left)) in
     let e = sheet-lines s (c .before .before .before .before .before .before .before .before .before .before .before .before .before .if1 .left) ∙ first-here s h in
-    let t = (simp (c .before .before .before .before .before .before .before .before .before .before .head .ensures) at (sym (c .before .before .before .before .before .before .before .before .before .read-line .ensures) ∙ c .before .before .before .before .before .before .before .said .given .1)) in
+    let t = (simp (c .before .before .before .before .before .before .before .before .before .before .head .ensures) at (sym (c .before .before .before .before .before .before .before .before .before .read-line .ensures) ∙ c .before .before .before .before .before .before .before .content .given .1)) in
     let u = sym (c .before .before .before .before .before .first-of .ensures) ∙ c .before .before .before .layout .given .1 in
-    sym (e ∙ rw (t, u, fails (c .before .accepted .ensures) (c .if3 .taken)))
+    sheet-promised _ _ (sym (e ∙ rw (t, u, fails (c .before .accepted .ensures) (c .if3 .taken))))
 
 rest-requires : tie.Need-rest-requires
 rest-requires c κs = search needs
@@ -89,10 +89,10 @@ returns-6 c =
     let s = now (c .before .before .before .before .before .before .before .before .before .before .before .before .before .before .before .before .before .args .sheet) in
     let h = ltb-true _ _ (holds (c .before .before .before .before .before .before .before .before .before .before .before .before .before .before .holds-byte .ensures) (c .before .before .before .before .before .before .before .before .before .before .before .before .before .if2 .left)) in
     let e = sheet-lines s (c .before .before .before .before .before .before .before .before .before .before .before .before .before .before .before .if1 .left) ∙ first-here s h in
-    let t = (simp (c .before .before .before .before .before .before .before .before .before .before .before .before .head .ensures) at (sym (c .before .before .before .before .before .before .before .before .before .before .before .read-line .ensures) ∙ c .before .before .before .before .before .before .before .before .before .said .given .1)) in
+    let t = (simp (c .before .before .before .before .before .before .before .before .before .before .before .before .head .ensures) at (sym (c .before .before .before .before .before .before .before .before .before .before .before .read-line .ensures) ∙ c .before .before .before .before .before .before .before .before .before .content .given .1)) in
     let u = sym (c .before .before .before .before .before .before .before .first-of .ensures) ∙ c .before .before .before .before .before .layout .given .1 in
     let r = simp (c .before .rest .ensures) at (c .read-body .ensures) in
-    r ∙ sym (e ∙ rw (t, u, holds (c .before .before .before .accepted .ensures) (c .before .before .if3 .left)))
+    sheet-promised _ _ (r ∙ sym (e ∙ rw (t, u, holds (c .before .before .before .accepted .ensures) (c .before .before .if3 .left))))
 
 pub read-sheet-spec : {M : Type 1} → statement M
 read-sheet-spec =
@@ -103,7 +103,7 @@ read-sheet-spec =
     returns-2
     head-requires
     read-line-requires
-    enum-known-said
+    enum-known-content
     enum-told
     returns-3
     first-of-requires

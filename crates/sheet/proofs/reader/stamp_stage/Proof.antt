@@ -5,7 +5,7 @@ use lib.Dec.{ltb, leb}
 use borrow.Author.Tests.{ltb-true}
 use Rattle.base.specs.Test.{if_then_else_}
 use Rattle.base.proofs.Tests.{each}
-use Rattle.definition.specs.Run.{lastClock}
+use Rattle.base.specs.Limits.{lastClock, mostStamps}
 use Rattle.sheet.specs.Sheet.{fitsTimetable}
 use borrow.Author.Needs.{needs}
 use Rattle.sheet.proofs.reader.stamp_stage.Statement.{statement}
@@ -18,9 +18,9 @@ add-t6 : tie.Need-add-t6
 unfolding fitsTimetable
 add-t6 c =
     let a = c .before .before .args in
-    let f = each (ltb (a .count) 4096 ∷ ltb (a .last) (a .stamp) ∷ leb (a .stamp) lastClock ∷ [])
+    let f = each (ltb (a .count) mostStamps ∷ ltb (a .last) (a .stamp) ∷ leb (a .stamp) lastClock ∷ [])
     (sym (c .before .fits-timetable .ensures) ∙ c .if1 .taken) .0 in
-    omega (arith, ltb-true (a .count) 4096 f)
+    omega (arith, ltb-true (a .count) mostStamps f)
 
 returns : tie.Need-returns
 unfolding if_then_else_

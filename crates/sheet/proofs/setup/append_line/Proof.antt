@@ -14,8 +14,8 @@ enum-told-2 c = search needs
 enum-told-3 : tie.Need-enum-told-3
 enum-told-3 c = search needs
 
-enum-known-said : tie.Need-enum-known-said
-enum-known-said c = search needs
+enum-known-content : tie.Need-enum-known-content
+enum-known-content c = search needs
 
 put-stamp-requires : tie.Need-put-stamp-requires
 put-stamp-requires c κs = search needs
@@ -36,7 +36,7 @@ same-length : tie.Need-same-length
 same-length c = search needs
 
 returns-4 : tie.Need-returns-4
-returns-4 c = simp (c .before .before .put-stamp .ensures, c .before .before .before .before .before .said .given .1, c .before .before .before .before .before .before .before .before .line .given .1)
+returns-4 c = simp (c .before .before .put-stamp .ensures, c .before .before .before .before .before .content .given .1, c .before .before .before .before .before .before .before .before .line .given .1)
 
 returns-5 : tie.Need-returns-5
 returns-5 c = search needs
@@ -49,7 +49,7 @@ append-line-spec =
     enum-known-line
     enum-told-2
     enum-told-3
-    enum-known-said
+    enum-known-content
     put-stamp-requires
     enum-told-4
     returns

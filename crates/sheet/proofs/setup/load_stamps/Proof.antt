@@ -5,9 +5,10 @@ use denote.Ref.{now}
 use lib.ListN.{length}
 use lib.Seq.{sets, length-sets}
 use Rattle.lines.specs.Text.{newline, head, rest}
-use Rattle.lines.specs.Line.{lineOf}
+use Rattle.lines.specs.Line.{parseLine}
+use Rattle.lines.proofs.Finding.{rest-less}
 use Rattle.sheet.specs.Sheet.{pieces, stampsFrom, sheetStamps}
-use Rattle.sheet.proofs.SheetLaws.{rest-less, stamps-next, stamps-end, stamp-sets}
+use Rattle.sheet.proofs.SheetLaws.{stamps-next, stamps-end, stamp-sets}
 use borrow.Author.Needs.{needs}
 use Rattle.sheet.proofs.setup.load_stamps.Statement.{statement}
 use Rattle.sheet.proofs.setup.load_stamps.Tie as tie
@@ -35,30 +36,30 @@ rest-requires c κs = search needs
 append-line-requires : tie.Need-append-line-requires Inv-loop μ-loop
 append-line-requires c κs = search needs
 
-stamps-said-requires : tie.Need-stamps-said-requires Inv-loop μ-loop
-stamps-said-requires c κs = search needs
+stamp-count-requires : tie.Need-stamp-count-requires Inv-loop μ-loop
+stamp-count-requires c κs = search needs
 
 add-count : tie.Need-add-count Inv-loop μ-loop
 add-count c =
     let i = c .before .before .before .before .before .before .before .before .before .loop .inv .0 in
     let k : length (now (c .before .before .before .before .before .before .before .before .before .before .before .before .args .sheet)) < 18446744073709551616 = search needs in
-    omega (arith, c .stamps-said .ensures .1, c .before .before .before .before .before .before .before .before .loop-test .taken)
+    omega (arith, c .stamp-count .ensures .1, c .before .before .before .before .before .before .before .before .loop-test .taken)
 
 loop-less : tie.Need-loop-less Inv-loop μ-loop
 loop-less c =
     let l = c .before .before .before .before .before .before .before .before .before .loop in
-    simp (c .before .before .before .before .before .rest .ensures) (rest-less (now (l .left)) (c .before .before .before .before .before .before .before .before .loop-test .taken))
+    simp (c .before .before .before .before .before .rest .ensures) (rest-less (now (l .left)) newline (c .before .before .before .before .before .before .before .before .loop-test .taken))
 
 loop-again : tie.Need-loop-again Inv-loop μ-loop
 loop-again c =
     let l = c .before .before .before .before .before .before .before .before .before .loop in
     let i = l .inv .0 in
-    let r = rest-less (now (l .left)) (c .before .before .before .before .before .before .before .before .loop-test .taken) in
-    let o = c .stamps-said .ensures .1 in
+    let r = rest-less (now (l .left)) newline (c .before .before .before .before .before .before .before .before .loop-test .taken) in
+    let o = c .stamp-count .ensures .1 in
     let e = l .inv .1 ∙ ap (sets (l .stamps) (l .count)) (stamps-next (now (l .left)))
-    ∙ stamp-sets (lineOf (head (now (l .left)) newline)) (stampsFrom (pieces (rest (now (l .left)) newline))) (l .stamps) (l .count) in (
+    ∙ stamp-sets (parseLine (head (now (l .left)) newline)) (stampsFrom (pieces (rest (now (l .left)) newline))) (l .stamps) (l .count) in (
       simp (c .before .before .before .before .before .rest .ensures) (omega arith),
-      simp (c .before .before .before .append-line .ensures, c .before .before .before .before .before .rest .ensures, c .stamps-said .ensures .0, (simp (c .before .before .before .before .before .before .before .head .ensures) at (c .before .before .before .before .before .before .read-line .ensures))) e,
+      simp (c .before .before .before .append-line .ensures, c .before .before .before .before .before .rest .ensures, c .stamp-count .ensures .0, (simp (c .before .before .before .before .before .before .before .head .ensures) at (c .before .before .before .before .before .before .read-line .ensures))) e,
     )
 
 same-length : tie.Need-same-length Inv-loop μ-loop
@@ -85,7 +86,7 @@ load-stamps-spec =
     read-line-requires
     rest-requires
     append-line-requires
-    stamps-said-requires
+    stamp-count-requires
     add-count
     loop-less
     loop-again

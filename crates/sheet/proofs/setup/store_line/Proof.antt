@@ -11,8 +11,8 @@ enum-known-line c = search needs
 enum-told-2 : tie.Need-enum-told-2
 enum-told-2 c = search needs
 
-enum-known-said : tie.Need-enum-known-said
-enum-known-said c = search needs
+enum-known-content : tie.Need-enum-known-content
+enum-known-content c = search needs
 
 put-word-requires : tie.Need-put-word-requires
 put-word-requires c κs = search needs
@@ -30,7 +30,7 @@ returns-2 : tie.Need-returns-2
 returns-2 c = search needs
 
 returns-3 : tie.Need-returns-3
-returns-3 c = simp (c .put-word .ensures, c .before .before .before .said .given .1, c .before .before .before .before .before .before .line .given .1)
+returns-3 c = simp (c .put-word .ensures, c .before .before .before .content .given .1, c .before .before .before .before .before .before .line .given .1)
 
 returns-4 : tie.Need-returns-4
 returns-4 c = search needs
@@ -45,7 +45,7 @@ store-line-spec =
     enum-told
     enum-known-line
     enum-told-2
-    enum-known-said
+    enum-known-content
     put-word-requires
     enum-told-3
     enum-told-4

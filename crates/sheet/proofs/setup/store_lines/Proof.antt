@@ -1,8 +1,10 @@
 use mathlib.Core.Path.{_≡_, refl, sym, _∙_}
 use denote.Ref.{now}
 use lib.ListN.{length}
+use Rattle.lines.specs.Text.{newline}
+use Rattle.lines.proofs.Finding.{rest-less}
 use Rattle.sheet.specs.Sheet.{pieces, memoryFrom}
-use Rattle.sheet.proofs.SheetLaws.{rest-less, memory-next, memory-end}
+use Rattle.sheet.proofs.SheetLaws.{memory-next, memory-end}
 use borrow.Author.Needs.{needs}
 use Rattle.sheet.proofs.setup.store_lines.Statement.{statement}
 use Rattle.sheet.proofs.setup.store_lines.Tie as tie
@@ -31,7 +33,7 @@ store-line-requires c κs = search needs
 loop-less : tie.Need-loop-less Inv-loop μ-loop
 loop-less c =
     let l = c .before .before .before .before .before .before .loop in
-    simp (c .before .before .rest .ensures) (rest-less (now (l .left)) (c .before .before .before .before .before .loop-test .taken))
+    simp (c .before .before .rest .ensures) (rest-less (now (l .left)) newline (c .before .before .before .before .before .loop-test .taken))
 
 loop-again : tie.Need-loop-again Inv-loop μ-loop
 loop-again c =

@@ -5,7 +5,7 @@ use denote.Ref.{now}
 use Rattle.lines.specs.Text.{tab, newline}
 use Rattle.definition.specs.Outcome.{kindLetter}
 use Rattle.transcript.specs.Transcript.{stepLine}
-use Rattle.transcript.proofs.TranscriptLaws.{byte-put, decimal-put, word-put, put-then}
+use Rattle.transcript.proofs.TranscriptLaws.{byte-put, decimal-put, hex-field-put, put-then}
 use borrow.Author.Needs.{needs}
 use Rattle.transcript.proofs.line.step_line.Statement.{statement}
 use Rattle.transcript.proofs.line.step_line.Tie as tie
@@ -28,11 +28,11 @@ put-byte-requires-3 c κs = search needs
 put-decimal-requires-2 : tie.Need-put-decimal-requires-2
 put-decimal-requires-2 c κs = search needs
 
-put-word-requires : tie.Need-put-word-requires
-put-word-requires c κs = search needs
+put-hex-field-requires : tie.Need-put-hex-field-requires
+put-hex-field-requires c κs = search needs
 
-put-word-requires-2 : tie.Need-put-word-requires-2
-put-word-requires-2 c κs = search needs
+put-hex-field-requires-2 : tie.Need-put-hex-field-requires-2
+put-hex-field-requires-2 c κs = search needs
 
 put-byte-requires-4 : tie.Need-put-byte-requires-4
 put-byte-requires-4 c κs = search needs
@@ -49,10 +49,10 @@ returns c =
     (put-then (byte-put (kindLetter (a .kind)) _ (c .before .before .before .before .before .before .before .before .before .before .before .before .before .before .before .before .before .before .before .before .before .before .before .letter .ensures) (c .before .before .before .before .before .before .before .before .before .before .before .before .before .before .before .before .before .before .before .before .before .before .put-byte2 .ensures))
     (put-then (byte-put tab _ refl (c .before .before .before .before .before .before .before .before .before .before .before .before .before .before .before .before .before .before .put-byte3 .ensures))
     (put-then (decimal-put (a .clock) _ (c .before .before .before .before .before .before .before .before .before .before .before .before .before .before .put-decimal2 .ensures))
-    (put-then (word-put (a .pc) (c .before .before .before .before .before .before .before .before .before .before .put-word .ensures))
-    (put-then (word-put (a .sr) (c .before .before .before .before .before .before .put-word2 .ensures))
+    (put-then (hex-field-put (a .pc) (c .before .before .before .before .before .before .before .before .before .before .put-hex-field .ensures))
+    (put-then (hex-field-put (a .sr) (c .before .before .before .before .before .before .put-hex-field2 .ensures))
     (byte-put newline _ refl (c .before .before .put-byte4 .ensures)))))))) in
-    (p .ends ∙ zero-add _, (omega (arith, c .before .before .put-byte4 .ensures .0, c .before .before .before .before .before .before .put-word2 .ensures .0, c .before .before .before .before .before .before .before .before .before .before .put-word .ensures .0, c .before .before .before .before .before .before .before .before .before .before .before .before .before .before .put-decimal2 .ensures .1 .0, c .before .before .before .before .before .before .before .before .before .before .before .before .before .before .before .before .before .before .put-byte3 .ensures .0, c .before .before .before .before .before .before .before .before .before .before .before .before .before .before .before .before .before .before .before .before .before .before .put-byte2 .ensures .0, c .before .before .before .before .before .before .before .before .before .before .before .before .before .before .before .before .before .before .before .before .before .before .before .before .before .before .before .put-byte .ensures .0, c .before .before .before .before .before .before .before .before .before .before .before .before .before .before .before .before .before .before .before .before .before .before .before .before .before .before .before .before .before .before .before .put-decimal .ensures .1 .0), p .lies))
+    (p .ends ∙ zero-add _, (omega (arith, c .before .before .put-byte4 .ensures .0, c .before .before .before .before .before .before .put-hex-field2 .ensures .0, c .before .before .before .before .before .before .before .before .before .before .put-hex-field .ensures .0, c .before .before .before .before .before .before .before .before .before .before .before .before .before .before .put-decimal2 .ensures .1 .0, c .before .before .before .before .before .before .before .before .before .before .before .before .before .before .before .before .before .before .put-byte3 .ensures .0, c .before .before .before .before .before .before .before .before .before .before .before .before .before .before .before .before .before .before .before .before .before .before .put-byte2 .ensures .0, c .before .before .before .before .before .before .before .before .before .before .before .before .before .before .before .before .before .before .before .before .before .before .before .before .before .before .before .put-byte .ensures .0, c .before .before .before .before .before .before .before .before .before .before .before .before .before .before .before .before .before .before .before .before .before .before .before .before .before .before .before .before .before .before .before .put-decimal .ensures .1 .0), p .lies))
 
 pub step-line-spec : {M : Type 1} → statement M
 step-line-spec =
@@ -64,8 +64,8 @@ step-line-spec =
     put-byte-requires-2
     put-byte-requires-3
     put-decimal-requires-2
-    put-word-requires
-    put-word-requires-2
+    put-hex-field-requires
+    put-hex-field-requires-2
     put-byte-requires-4
     same-length
     returns)

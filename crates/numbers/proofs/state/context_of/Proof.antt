@@ -1,10 +1,10 @@
 use mathlib.Core.Path.{sym, _∙_}
 use borrow.Author.Tests.{eq-eqb, ne-eqb}
 use Rattle.base.specs.Test.{if_then_else_}
-use Rattle.numbers.specs.State.{visitOf}
+use Rattle.numbers.specs.State.{contextOf}
 use borrow.Author.Needs.{needs}
-use Rattle.numbers.proofs.state.visit_of.Statement.{statement}
-use Rattle.numbers.proofs.state.visit_of.Tie as tie
+use Rattle.numbers.proofs.state.context_of.Statement.{statement}
+use Rattle.numbers.proofs.state.context_of.Tie as tie
 
 has-odd-flag-requires : tie.Need-has-odd-flag-requires
 has-odd-flag-requires c κs = search needs
@@ -13,14 +13,14 @@ array-read-t7 : tie.Need-array-read-t7
 array-read-t7 c = search needs
 
 returns : tie.Need-returns
-unfolding visitOf if_then_else_
+unfolding contextOf if_then_else_
 returns c = simp (sym (c .before .has-odd-flag .ensures) ∙ c .if1 .taken)
 
 array-read-if2 : tie.Need-array-read-if2
 array-read-if2 c = search needs
 
 returns-2 : tie.Need-returns-2
-unfolding visitOf if_then_else_
+unfolding contextOf if_then_else_
 returns-2 c =
     simp (sym (c .before .before .has-odd-flag .ensures) ∙ c .before .if1 .left, eq-eqb _ _ (c .if2 .taken))
 
@@ -34,7 +34,7 @@ byte-of-requires : tie.Need-byte-of-requires
 byte-of-requires c κs = search needs
 
 returns-3 : tie.Need-returns-3
-unfolding visitOf if_then_else_
+unfolding contextOf if_then_else_
 returns-3 c =
     simp (
       c .byte-of .ensures,
@@ -42,8 +42,8 @@ returns-3 c =
       ne-eqb _ _ (c .before .if2 .left),
     )
 
-pub visit-of-spec : {M : Type 1} → statement M
-visit-of-spec =
+pub context-of-spec : {M : Type 1} → statement M
+context-of-spec =
     tie.close
     (tie.spec
     has-odd-flag-requires

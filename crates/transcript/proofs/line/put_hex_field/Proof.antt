@@ -5,8 +5,8 @@ use Rattle.lines.specs.Text.{tab}
 use Rattle.transcript.specs.Transcript.{hexByte, hexBytes}
 use Rattle.transcript.proofs.TranscriptLaws.{byte-put, put-then}
 use borrow.Author.Needs.{needs}
-use Rattle.transcript.proofs.line.put_word.Statement.{statement}
-use Rattle.transcript.proofs.line.put_word.Tie as tie
+use Rattle.transcript.proofs.line.put_hex_field.Statement.{statement}
+use Rattle.transcript.proofs.line.put_hex_field.Tie as tie
 
 put-byte-requires : tie.Need-put-byte-requires
 put-byte-requires c κs = search needs
@@ -61,8 +61,8 @@ returns c =
     (byte-put (hexByte (a .w % 16)) _ (c .before .before .before .hex-byte4 .ensures) (c .before .before .put-byte5 .ensures))))) in
     (p .ends, p .lies)
 
-pub put-word-spec : {M : Type 1} → statement M
-put-word-spec =
+pub put-hex-field-spec : {M : Type 1} → statement M
+put-hex-field-spec =
     tie.close
     (tie.spec
     put-byte-requires
