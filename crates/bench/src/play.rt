@@ -1,6 +1,7 @@
 // A sheet's run: a line for each step, and the last line.
 use crate::output;
 use crate::output::Page;
+use base::limits::LAST_CLOCK;
 use definition::answer::End;
 use definition::answer::Outcome;
 use definition::answer::StepAnswer;
@@ -44,7 +45,7 @@ fn put_end(out: &mut [u8], filled: usize, ending: End, steps: u64, clock: u64) {
 
 // The clock is above 2^62.
 fn is_late(m: State) -> bool {
-    m.time.clock > 0x4000_0000_0000_0000
+    m.time.clock > LAST_CLOCK
 }
 
 // Why a run stops here.
@@ -100,7 +101,7 @@ fn steps(m: Machine, mem: &mut [u8], layout: Layout, stamps: &[u64], budget: u64
         let stepped = current.step(mem, layout, stamps);
         let next = stepped.machine;
         let answer = stepped.answer;
-        let StepAnswer::Made(kind) = answer else {
+        let StepAnswer::Done(kind) = answer else {
             return;
         };
         n += 1;

@@ -1,7 +1,7 @@
 // The calls, each with its line of output.
-use crate::print;
 use crate::show;
 use crate::world::World;
+use console::print;
 use definition::answer::Outcome;
 use definition::answer::RunAnswer;
 use definition::answer::StartAnswer;
@@ -11,7 +11,7 @@ use machine::calls::Machine;
 
 // What cannot be read or done is answered by a question mark.
 pub fn unknown(w: World) -> World {
-    print::text(b"?\n");
+    print::unknown();
     w
 }
 
@@ -38,7 +38,7 @@ fn show_outcome(o: Outcome) {
 fn show_step(a: StepAnswer) {
     print::text(b"T");
     match a {
-        StepAnswer::Made(outcome) => show_outcome(outcome),
+        StepAnswer::Done(outcome) => show_outcome(outcome),
         StepAnswer::Refused(r) => print::refusal(r.number()),
     }
 }
@@ -47,7 +47,7 @@ fn show_step(a: StepAnswer) {
 fn show_run(a: RunAnswer) {
     print::text(b"G");
     match a {
-        RunAnswer::Made(end, steps) => {
+        RunAnswer::Done(end, steps) => {
             print::space_letter(end.letter());
             print::space_decimal(steps);
         }
@@ -66,7 +66,7 @@ pub fn start(w: World, mem: &[u8]) -> World {
     let answer = started.answer;
     print::text(b"S");
     match answer {
-        StartAnswer::Made => {
+        StartAnswer::Done => {
             print::text(b" ok");
             show::state(next, mem);
             with_state(w, next)

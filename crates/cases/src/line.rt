@@ -1,6 +1,5 @@
 // A line of the script: a letter, and fields that are hexadecimal numbers, each after one space.
-ghost use Prim.Native.Nat.{_≤_, _<_};
-ghost use lib.ListN.{length};
+ghost use Prim.Native.Nat.{_≤_};
 
 // The letter, the fields read so far, how many, how many digits the last one has, and whether all of it could be read.
 pub struct Line {
@@ -117,30 +116,4 @@ pub fn is_comment(text: &[u8]) -> bool {
         return false;
     }
     text[0] == b'#'
-}
-
-// Where the line that begins at `from` ends: at its newline, or at the end of the script.
-pub fn end(script: &[u8], from: usize) -> usize
-    requires { ⌜ from ≤ length (now script) ⌝ }
-    ensures { λ r. ⌜ (from ≤ r) × (r ≤ length (now (script .entry))) ⌝ }
-{
-    let mut i = from;
-    while i < script.len() {
-        if script[i] == b'\n' {
-            return i;
-        }
-        i += 1;
-    }
-    i
-}
-
-// Where the line after it begins: past the newline at `end`, or at the end of the script.
-pub fn after(script: &[u8], from: usize, end: usize) -> usize
-    requires { ⌜ (from < length (now script)) × (from ≤ end) ⌝ }
-    ensures { λ r. ⌜ from < r ⌝ }
-{
-    if end < script.len() {
-        return end + 1;
-    }
-    script.len()
 }

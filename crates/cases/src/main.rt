@@ -5,7 +5,7 @@
 //
 // W            a new world: memory 0, document 01's layout, no stamps, nothing but 0 in the state, previous address FFFE
 // L a b c d e  layout: code start and end, data start and end, service address
-// M a w..      words in memory, from address a on
+// M a w..      words in memory, from the even address a on
 // N n          how many bytes of the memory's 65,538 a call is lent
 // A s..   a    stamps put behind the timetable's last; an empty timetable
 // F s d n      n stamps put there: s, s + d, ..
@@ -27,23 +27,19 @@ mod call;
 mod line;
 mod memory;
 mod play;
-mod print;
 mod rules;
 mod show;
 mod stamps;
 mod words;
 mod world;
 
-use libc::STDIN_FILENO;
+use console::input::read_whole;
 
-// The script is read whole: where it fills its buffer, it may have been cut.
+// The script is read whole and obeyed line by line.
 fn main() {
     let mut script = [0u8; 131072];
     let mut mem = [0u8; 65538];
     let mut times = [0u64; 4100];
-    let n = io::read_full(STDIN_FILENO, &mut script);
-    if n == 131072 {
-        print::text(b"?\n");
-    }
+    let n = read_whole(&mut script);
     play::script(&script[..n], &mut mem, &mut times);
 }

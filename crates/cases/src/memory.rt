@@ -1,38 +1,22 @@
 // The bytes of the memory.
+use crate::words::word;
+use act::memory::put_word;
+use base::word::sum;
 
-// Every byte 0.
-pub fn clear(mem: &mut [u8]) {
-    let mut i = 0;
-    while i < mem.len() {
-        mem[i] = 0;
-        i += 1;
-    }
-}
-
-// A word at an address, low byte first; nothing where it does not fit.
-fn put(mem: &mut [u8], a: u64, w: u64) {
-    let low = (a % 65536) as usize;
-    let high = low + 1;
-    if high < mem.len() {
-        mem[low] = (w % 256) as u8;
-        mem[high] = (w / 256 % 256) as u8;
-    }
-}
-
-// The same where the word is wanted.
-fn put_wanted(mem: &mut [u8], a: u64, w: u64, wanted: bool) {
+// A word at an address, where it is wanted.
+fn put_wanted(mem: &mut [u8], a: u16, w: u16, wanted: bool) {
     if wanted {
-        put(mem, a, w);
+        put_word(mem, a, w);
     }
 }
 
 // The fields after the first, as words from the address that is the first on.
 pub fn put_words(mem: &mut [u8], fields: [u64; 8], count: usize) {
-    let mut a = fields[0];
+    let mut a = word(fields[0]);
     let mut i = 1;
     while i < 8 {
-        put_wanted(mem, a, fields[i], i < count);
-        a = std::num::wrapping_add_u64(a, 2);
+        put_wanted(mem, a, word(fields[i]), i < count);
+        a = sum(a, 2);
         i += 1;
     }
 }

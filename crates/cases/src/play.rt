@@ -3,11 +3,13 @@ use crate::call;
 use crate::line;
 use crate::line::Line;
 use crate::memory;
-use crate::print;
 use crate::rules;
 use crate::stamps;
 use crate::world;
 use crate::world::World;
+use console::print;
+use lines::text::head;
+use lines::text::rest;
 
 // The world with another state, by the part of the state that the line names.
 fn overwrite(w: World, l: Line) -> World {
@@ -17,13 +19,13 @@ fn overwrite(w: World, l: Line) -> World {
 }
 
 // A new world, and no byte but 0 in memory.
-fn clear(mem: &mut [u8]) -> World {
-    memory::clear(mem);
+fn clear(mem: &mut [u8; 65538]) -> World {
+    *mem = [0; 65538];
     world::new_world()
 }
 
 // Words in memory.
-fn put_words(w: World, mem: &mut [u8], l: Line) -> World {
+fn put_words(w: World, mem: &mut [u8; 65538], l: Line) -> World {
     let fields = l.fields;
     memory::put_words(mem, fields, l.count);
     w
@@ -60,7 +62,7 @@ fn put_row(w: World, times: &mut [u64], l: Line) -> World {
 }
 
 // A line that keeps its rule.
-fn obey(w: World, l: Line, mem: &mut [u8], times: &mut [u64]) -> World {
+fn obey(w: World, l: Line, mem: &mut [u8; 65538], times: &mut [u64]) -> World {
     let fields = l.fields;
     let letter = l.letter;
     match letter {
@@ -82,7 +84,7 @@ fn obey(w: World, l: Line, mem: &mut [u8], times: &mut [u64]) -> World {
 }
 
 // One line: repeated, obeyed, or answered by a question mark.
-fn one_line(w: World, text: &[u8], mem: &mut [u8], times: &mut [u64]) -> World {
+fn one_line(w: World, text: &[u8], mem: &mut [u8; 65538], times: &mut [u64]) -> World {
     if line::is_comment(text) {
         print::text(text);
         print::end_line();
@@ -96,14 +98,13 @@ fn one_line(w: World, text: &[u8], mem: &mut [u8], times: &mut [u64]) -> World {
 }
 
 // Every line, from a new world on.
-pub fn script(text: &[u8], mem: &mut [u8], times: &mut [u64]) {
+pub fn script(text: &[u8], mem: &mut [u8; 65538], times: &mut [u64]) {
     let mut w = world::new_world();
-    let mut at = 0;
-    while at < text.len() {
-        let end = line::end(text, at);
-        let after = line::after(text, at, end);
-        let next = one_line(w, &text[at..end], mem, times);
+    let mut left = text;
+    while left.len() > 0 {
+        let after = rest(left, b'\n');
+        let next = one_line(w, head(left, b'\n'), mem, times);
         w = next;
-        at = after;
+        left = after;
     }
 }

@@ -1,10 +1,10 @@
 // The state of the machine on a line.
 use crate::memory;
-use crate::print;
+use console::print;
+use definition::state::SavedContext;
 use definition::state::Stamp;
 use definition::state::State;
 use definition::state::Time;
-use definition::state::Visit;
 
 // Sixteen words.
 fn registers(words: [u16; 16]) {
@@ -42,10 +42,10 @@ fn held(previous: u16, age: u8, saved: [u16; 16]) {
 }
 
 // The saved copy is shown where a visit is held: elsewhere it means nothing.
-fn visit(v: Visit, saved: [u16; 16]) {
+fn context(v: SavedContext, saved: [u16; 16]) {
     match v {
-        Visit::Free => print::text(b" free"),
-        Visit::Held { previous, age } => held(previous, age, saved),
+        SavedContext::Unheld => print::text(b" free"),
+        SavedContext::Held { previous, age } => held(previous, age, saved),
     }
 }
 
@@ -70,7 +70,7 @@ pub fn state(m: State, mem: &[u8]) {
     let words = m.registers;
     let saved = m.saved;
     let time = m.time;
-    let v = m.visit;
+    let v = m.context;
     print::text(b" clock");
     print::space_decimal(time.clock);
     print::text(b" registers");
@@ -78,7 +78,7 @@ pub fn state(m: State, mem: &[u8]) {
     print::text(b" previous");
     print::space_word(m.previous);
     slot_and_alarm(time);
-    visit(v, saved);
+    context(v, saved);
     halted(m.halted);
     sums(mem);
 }

@@ -9,11 +9,3 @@ pub fn word(n: u64) -> u16 {
 pub fn byte(n: u64) -> u8 {
     (n % 256) as u8
 }
-
-// The registers with the one of this number set.
-pub fn set(registers: [u16; 16], n: u64, w: u64) -> [u16; 16] {
-    let mut next = registers;
-    let i = (n % 16) as usize;
-    next[i] = word(w);
-    next
-}

@@ -1,12 +1,13 @@
 // What a call is given: the machine, the layout, how many bytes of the memory and how many stamps.
 use crate::line::Line;
 use crate::words::byte;
-use crate::words::set;
 use crate::words::word;
+use act::registers::set_register;
+use base::limits::MEMORY_BYTES;
+use definition::state::SavedContext;
 use definition::state::Stamp;
 use definition::state::State;
 use definition::state::Time;
-use definition::state::Visit;
 use layout::sections::Layout;
 use layout::sections::Span;
 
@@ -28,7 +29,7 @@ fn zero_state() -> State {
             slot: Stamp::Never,
             alarm: Stamp::Never,
         },
-        visit: Visit::Free,
+        context: SavedContext::Unheld,
         saved: [0; 16],
         halted: false,
     }
@@ -54,7 +55,7 @@ pub fn new_world() -> World {
     World {
         state: zero_state(),
         layout: layout_of([0x8000, 0x8008, 0x8100, 0x8104, 0x4500, 0, 0, 0]),
-        bytes: 65536,
+        bytes: MEMORY_BYTES,
         stamps: 0,
     }
 }
@@ -85,7 +86,7 @@ fn with_clock(m: State, n: u64) -> State {
 // The machine with one register set.
 fn with_register(m: State, n: u64, w: u64) -> State {
     let old = m.registers;
-    let next = set(old, n, w);
+    let next = set_register(old, byte(n), word(w));
     State {
         registers: next,
         ..m
@@ -95,15 +96,15 @@ fn with_register(m: State, n: u64, w: u64) -> State {
 // The machine with one register of the saved copy set.
 fn with_saved(m: State, n: u64, w: u64) -> State {
     let old = m.saved;
-    let next = set(old, n, w);
+    let next = set_register(old, byte(n), word(w));
     State { saved: next, ..m }
 }
 
 // A visit is held, its registers 0 but for GIE.
 fn with_held(m: State, previous: u64, age: u64) -> State {
-    let registers = set([0; 16], 2, 8);
+    let registers = set_register([0; 16], 2, 8);
     State {
-        visit: Visit::Held {
+        context: SavedContext::Held {
             previous: word(previous),
             age: byte(age),
         },
@@ -130,7 +131,7 @@ pub fn overwritten(m: State, l: Line) -> State {
         b'd' => with_alarm(m, Stamp::Never),
         b'H' => with_held(m, fields[0], fields[1]),
         b'h' => State {
-            visit: Visit::Free,
+            context: SavedContext::Unheld,
             ..m
         },
         b'Z' => State { halted: true, ..m },

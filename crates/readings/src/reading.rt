@@ -1,7 +1,9 @@
 // A sheet's reading: its refusal, or how its run ends.
-use crate::part;
+use base::limits::MEMORY_BYTES;
+use console::print;
 use definition::answer::RunAnswer;
-use libc::STDOUT_FILENO;
+use lines::text::head;
+use lines::text::rest;
 use machine::calls::Machine;
 use sheet::reader::Answer;
 use sheet::reader::Setup;
@@ -10,11 +12,6 @@ use sheet::setup::load_memory;
 use sheet::setup::load_stamps;
 use transcript::line::end_line;
 use transcript::line::refusal_line;
-
-// Bytes as they are.
-pub fn print(text: &[u8]) {
-    io::write_all(STDOUT_FILENO, text);
-}
 
 // The last line of a sheet's run, from the start of its memory. A sheet that was read is not refused here; if it were, line 0 would
 // say so.
@@ -30,13 +27,18 @@ fn run_line(out: &mut [u8], setup: Setup, mem: &mut [u8], stamps: &[u64]) -> usi
     let next = ran.machine.0;
     let answer = ran.answer;
     match answer {
-        RunAnswer::Made(end, steps) => end_line(out, end, steps, next.time.clock),
+        RunAnswer::Done(end, steps) => end_line(out, end, steps, next.time.clock),
         RunAnswer::Refused(refusal) => refusal_line(out, refusal, 0),
     }
 }
 
 // The last line that the bench prints for a sheet, put into what is lent; its length.
-fn last_line(out: &mut [u8], text: &[u8], mem: &mut [u8; 65536], stamps: &mut [u64]) -> usize {
+fn last_line(
+    out: &mut [u8],
+    text: &[u8],
+    mem: &mut [u8; MEMORY_BYTES],
+    stamps: &mut [u64],
+) -> usize {
     match read_sheet(text) {
         Answer::Refused(refusal, line) => refusal_line(out, refusal, line),
         Answer::Read(setup) => {
@@ -48,25 +50,23 @@ fn last_line(out: &mut [u8], text: &[u8], mem: &mut [u8; 65536], stamps: &mut [u
 }
 
 // One sheet: its name, a tab, its last line.
-fn one(name: &[u8], text: &[u8], mem: &mut [u8; 65536], stamps: &mut [u64]) {
+fn one(name: &[u8], text: &[u8], mem: &mut [u8; MEMORY_BYTES], stamps: &mut [u64]) {
     let mut line = [0u8; 64];
-    print(name);
-    print(b"\t");
+    print::text(name);
+    print::text(b"\t");
     let n = last_line(&mut line, text, mem, stamps);
     if n <= 64 {
-        print(&line[0..n]);
+        print::text(&line[0..n]);
     }
 }
 
 // Every sheet.
-pub fn all(text: &[u8], mem: &mut [u8; 65536], stamps: &mut [u64]) {
-    let mut at = 0;
-    while at < text.len() {
-        let named = part::end(text, at);
-        let start = part::after(text, at, named);
-        let end = part::end(text, start);
-        let next = part::after(text, at, end);
-        one(&text[at..named], &text[start..end], mem, stamps);
-        at = next;
+pub fn all(text: &[u8], mem: &mut [u8; MEMORY_BYTES], stamps: &mut [u64]) {
+    let mut left = text;
+    while left.len() > 0 {
+        let sheets = rest(left, b'%');
+        let after = rest(sheets, b'%');
+        one(head(left, b'%'), head(sheets, b'%'), mem, stamps);
+        left = after;
     }
 }

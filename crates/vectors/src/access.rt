@@ -1,5 +1,5 @@
 // Access: for an instruction's address and a right, y or n for each of some addresses; and which layouts are refused.
-use crate::print;
+use console::print;
 use layout::access::Access;
 use layout::access::Right;
 use layout::sections::Layout;
@@ -54,7 +54,7 @@ fn show_right(right: Right) {
 }
 
 fn show(from: u16, right: Right) {
-    print::hex(from);
+    print::word(from);
     show_right(right);
     let mut i = 0;
     while i < 14 {
@@ -85,13 +85,13 @@ fn refusal(a: Access) -> u8 {
 }
 
 fn show_layout(a: u16, b: u16, c: u16, d: u16, e: u16) {
-    print::hex(a);
-    print::space_hex(b);
-    print::space_hex(c);
-    print::space_hex(d);
-    print::space_hex(e);
+    print::word(a);
+    print::space_word(b);
+    print::space_word(c);
+    print::space_word(d);
+    print::space_word(e);
     let l = layout_of(a, b, c, d, e);
-    print::space_decimal(refusal(l.access(0x4404, Right::Execute, 0x8000)));
+    print::space_decimal(refusal(l.access(0x4404, Right::Execute, 0x8000)) as u64);
     print::end_line();
 }
 

@@ -1,7 +1,6 @@
 // Test vectors: what the instruction, arithmetic and layout layers answer, a line each. The file stdout beside src/ has what
 // document 01 says that they answer; it was written by the separate model and by nothing of this repository's crates.
 mod access;
-mod print;
 mod sums;
 mod words;
 

@@ -1,9 +1,9 @@
 // Arithmetic: source, destination, result, and the status that an empty one becomes.
-use crate::print;
 use alu::arithmetic::Computed;
 use alu::arithmetic::compute;
 use alu::arithmetic::invert;
 use alu::status::set_flags;
+use console::print;
 use isa::instruction::Operation;
 
 const VALUES: [u16; 5] = [0x0000, 0x0001, 0x7fff, 0x8000, 0xffff];
@@ -18,15 +18,15 @@ fn name(o: Operation) {
 }
 
 fn show_result(c: Computed) {
-    print::space_hex(c.result);
-    print::space_hex(set_flags(0, c));
+    print::space_word(c.result);
+    print::space_word(set_flags(0, c));
     print::end_line();
 }
 
 fn show(o: Operation, s: u16, d: u16) {
     name(o);
-    print::space_hex(s);
-    print::space_hex(d);
+    print::space_word(s);
+    print::space_word(d);
     show_result(compute(o, s, d));
 }
 
@@ -55,7 +55,7 @@ pub fn all() {
 
 fn show_inverted(d: u16) {
     print::text(b"NOT");
-    print::space_hex(d);
+    print::space_word(d);
     show_result(invert(d));
 }
 

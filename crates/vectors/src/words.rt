@@ -1,6 +1,6 @@
 // Instruction words: read, with what is written back.
-use crate::print;
 use base::word::sum;
+use console::print;
 use isa::instruction::Instruction;
 use isa::instruction::Operand;
 use isa::instruction::Operation;
@@ -78,40 +78,35 @@ fn take_apart(i: Instruction) -> Parts {
 
 fn show_parts(i: Instruction) {
     let p = take_apart(i);
-    print::space_decimal(p.kind);
-    print::space_decimal(p.source);
-    print::space_decimal(p.destination);
-    print::space_hex(p.constant);
-}
-
-fn refuse(number: u8) {
-    print::text(b" E");
-    print::space_decimal(number);
+    print::space_decimal(p.kind as u64);
+    print::space_decimal(p.source as u64);
+    print::space_decimal(p.destination as u64);
+    print::space_word(p.constant);
 }
 
 fn show_written(w: Writing) {
     match w {
-        Writing::One(first) => print::space_hex(first),
+        Writing::One(first) => print::space_word(first),
         Writing::Two(first, second) => {
-            print::space_hex(first);
-            print::space_hex(second);
+            print::space_word(first);
+            print::space_word(second);
         }
-        Writing::Refused(r) => refuse(r.number()),
+        Writing::Refused(r) => print::refusal(r.number()),
     }
 }
 
 // Two words, and the instruction with its length, its cycles and the words that it is written as, or E and the number.
 fn show_read(first: u16, second: u16) {
-    print::hex(first);
-    print::space_hex(second);
+    print::word(first);
+    print::space_word(second);
     match Instruction::read(first, second) {
         Reading::Decoded(i, n) => {
             show_parts(i);
-            print::space_decimal(n);
-            print::space_decimal(i.cycles());
+            print::space_decimal(n as u64);
+            print::space_decimal(i.cycles() as u64);
             show_written(i.write());
         }
-        Reading::Refused(r) => refuse(r.number()),
+        Reading::Refused(r) => print::refusal(r.number()),
     }
     print::end_line();
 }

@@ -11,23 +11,29 @@ Inv-loop mem₀ count fields a₀ i₀ mem a i = (i ≤ 8) × (length mem ≡ le
 abbrev μ-loop : tie.MeasureT-loop
 μ-loop mem₀ count fields a₀ i₀ mem a i = 8 - i
 
-array-read-a : tie.Need-array-read-a Inv-loop μ-loop
-array-read-a c = search needs
+array-read-word : tie.Need-array-read-word Inv-loop μ-loop
+array-read-word c = search needs
+
+word-requires : tie.Need-word-requires Inv-loop μ-loop
+word-requires c κs = search needs
 
 loop-holds : tie.Need-loop-holds Inv-loop μ-loop
 loop-holds c = search needs
 
-mul-put-wanted : tie.Need-mul-put-wanted Inv-loop μ-loop
-mul-put-wanted c = search needs
+mul-word : tie.Need-mul-word Inv-loop μ-loop
+mul-word c = search needs
 
-array-read-put-wanted : tie.Need-array-read-put-wanted Inv-loop μ-loop
-array-read-put-wanted c = search needs
+array-read-word-2 : tie.Need-array-read-word-2 Inv-loop μ-loop
+array-read-word-2 c = search needs
+
+word-requires-2 : tie.Need-word-requires-2 Inv-loop μ-loop
+word-requires-2 c κs = search needs
 
 put-wanted-requires : tie.Need-put-wanted-requires Inv-loop μ-loop
 put-wanted-requires c κs = search needs
 
-wrapping-add-u64-requires : tie.Need-wrapping-add-u64-requires Inv-loop μ-loop
-wrapping-add-u64-requires c κs = search needs
+sum-requires : tie.Need-sum-requires Inv-loop μ-loop
+sum-requires c κs = search needs
 
 add-i : tie.Need-add-i Inv-loop μ-loop
 add-i c = search needs
@@ -50,12 +56,14 @@ put-words-spec =
     (tie.spec
     Inv-loop
     μ-loop
-    array-read-a
+    array-read-word
+    word-requires
     loop-holds
-    mul-put-wanted
-    array-read-put-wanted
+    mul-word
+    array-read-word-2
+    word-requires-2
     put-wanted-requires
-    wrapping-add-u64-requires
+    sum-requires
     add-i
     loop-less
     loop-again

@@ -1,15 +1,17 @@
-use Prim.Native.Nat.{_-_}
 use mathlib.Core.Path.{_≡_}
+use denote.Ref.{now}
 use lib.ListN.{length}
+use Rattle.lines.specs.Text.{newline}
+use Rattle.lines.proofs.Finding.{rest-less}
 use borrow.Author.Needs.{needs}
 use Rattle.cases.proofs.play.script.Statement.{statement}
 use Rattle.cases.proofs.play.script.Tie as tie
 
 abbrev Inv-loop : tie.InvT-loop
-Inv-loop text mem₀ times₀ w₀ at₀ mem times w at = (length mem ≡ length mem₀) × (length times ≡ length times₀)
+Inv-loop text mem₀ times₀ w₀ left₀ mem times w left = length times ≡ length times₀
 
 abbrev μ-loop : tie.MeasureT-loop
-μ-loop text mem₀ times₀ w₀ at₀ mem times w at = length text - at
+μ-loop text mem₀ times₀ w₀ left₀ mem times w left = length left
 
 new-world-requires : tie.Need-new-world-requires Inv-loop μ-loop
 new-world-requires c κs = search needs
@@ -17,35 +19,25 @@ new-world-requires c κs = search needs
 loop-holds : tie.Need-loop-holds Inv-loop μ-loop
 loop-holds c = search needs
 
-end-requires : tie.Need-end-requires Inv-loop μ-loop
-end-requires c κs = search needs
+rest-requires : tie.Need-rest-requires Inv-loop μ-loop
+rest-requires c κs = search needs
 
-after-requires : tie.Need-after-requires Inv-loop μ-loop
-after-requires c κs = search needs
-
-sub-one-line : tie.Need-sub-one-line Inv-loop μ-loop
-sub-one-line c = search needs
-
-part-one-line-start : tie.Need-part-one-line-start Inv-loop μ-loop
-part-one-line-start c = search needs
-
-part-one-line-end : tie.Need-part-one-line-end Inv-loop μ-loop
-part-one-line-end c = search needs
+head-requires : tie.Need-head-requires Inv-loop μ-loop
+head-requires c κs = search needs
 
 one-line-requires : tie.Need-one-line-requires Inv-loop μ-loop
 one-line-requires c κs = search needs
 
 loop-less : tie.Need-loop-less Inv-loop μ-loop
-loop-less c = search needs
+loop-less c =
+    let l = c .before .before .before .before .before .before .before .before .loop in
+    simp (c .before .before .before .before .before .before .rest .ensures) (rest-less (now (l .left)) newline (c .before .before .before .before .before .before .before .loop-test .taken))
 
 loop-again : tie.Need-loop-again Inv-loop μ-loop
 loop-again c = search needs
 
 same-length : tie.Need-same-length Inv-loop μ-loop
 same-length c = search needs
-
-same-length-2 : tie.Need-same-length-2 Inv-loop μ-loop
-same-length-2 c = search needs
 
 returns : tie.Need-returns Inv-loop μ-loop
 returns c = search needs
@@ -58,14 +50,10 @@ script-spec =
     μ-loop
     new-world-requires
     loop-holds
-    end-requires
-    after-requires
-    sub-one-line
-    part-one-line-start
-    part-one-line-end
+    rest-requires
+    head-requires
     one-line-requires
     loop-less
     loop-again
     same-length
-    same-length-2
     returns)

@@ -1,54 +1,43 @@
-use Prim.Native.Nat.{_-_}
 use mathlib.Core.Path.{_≡_}
+use native.Mathlib.Omega.{arith}
+use denote.Ref.{now}
 use lib.ListN.{length}
+use Rattle.lines.specs.Text.{rest}
+use Rattle.lines.proofs.Finding.{rest-within, rest-less}
 use borrow.Author.Needs.{needs}
 use Rattle.readings.proofs.reading.all.Statement.{statement}
 use Rattle.readings.proofs.reading.all.Tie as tie
 
 abbrev Inv-loop : tie.InvT-loop
-Inv-loop text mem₀ stamps₀ at₀ mem stamps at = length stamps ≡ length stamps₀
+Inv-loop text mem₀ stamps₀ left₀ mem stamps left = length stamps ≡ length stamps₀
 
 abbrev μ-loop : tie.MeasureT-loop
-μ-loop text mem₀ stamps₀ at₀ mem stamps at = length text - at
+μ-loop text mem₀ stamps₀ left₀ mem stamps left = length left
 
 loop-holds : tie.Need-loop-holds Inv-loop μ-loop
 loop-holds c = search needs
 
-end-requires : tie.Need-end-requires Inv-loop μ-loop
-end-requires c κs = search needs
+rest-requires : tie.Need-rest-requires Inv-loop μ-loop
+rest-requires c κs = search needs
 
-after-requires : tie.Need-after-requires Inv-loop μ-loop
-after-requires c κs = search needs
+rest-requires-2 : tie.Need-rest-requires-2 Inv-loop μ-loop
+rest-requires-2 c κs = search needs
 
-end-requires-2 : tie.Need-end-requires-2 Inv-loop μ-loop
-end-requires-2 c κs = search needs
+head-requires : tie.Need-head-requires Inv-loop μ-loop
+head-requires c κs = search needs
 
-after-requires-2 : tie.Need-after-requires-2 Inv-loop μ-loop
-after-requires-2 c κs = search needs
-
-sub-one : tie.Need-sub-one Inv-loop μ-loop
-sub-one c = search needs
-
-part-one-start : tie.Need-part-one-start Inv-loop μ-loop
-part-one-start c = search needs
-
-part-one-end : tie.Need-part-one-end Inv-loop μ-loop
-part-one-end c = search needs
-
-sub-one-2 : tie.Need-sub-one-2 Inv-loop μ-loop
-sub-one-2 c = search needs
-
-part-one-start-2 : tie.Need-part-one-start-2 Inv-loop μ-loop
-part-one-start-2 c = search needs
-
-part-one-end-2 : tie.Need-part-one-end-2 Inv-loop μ-loop
-part-one-end-2 c = search needs
+head-requires-2 : tie.Need-head-requires-2 Inv-loop μ-loop
+head-requires-2 c κs = search needs
 
 one-requires : tie.Need-one-requires Inv-loop μ-loop
 one-requires c κs = search needs
 
 loop-less : tie.Need-loop-less Inv-loop μ-loop
-loop-less c = search needs
+loop-less c =
+    let l = c .before .before .before .before .before .before .before .before .before .before .loop in
+    let first = rest-less (now (l .left)) 37 (c .before .before .before .before .before .before .before .before .before .loop-test .taken) in
+    let second = rest-within (rest (now (l .left)) 37) 37 in
+    simp (c .before .before .before .before .before .before .before .rest2 .ensures, c .before .before .before .before .before .before .before .before .rest .ensures) (omega (arith, first, second))
 
 loop-again : tie.Need-loop-again Inv-loop μ-loop
 loop-again c = search needs
@@ -66,16 +55,10 @@ all-spec =
     Inv-loop
     μ-loop
     loop-holds
-    end-requires
-    after-requires
-    end-requires-2
-    after-requires-2
-    sub-one
-    part-one-start
-    part-one-end
-    sub-one-2
-    part-one-start-2
-    part-one-end-2
+    rest-requires
+    rest-requires-2
+    head-requires
+    head-requires-2
     one-requires
     loop-less
     loop-again

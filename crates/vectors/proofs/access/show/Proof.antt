@@ -9,8 +9,8 @@ Inv-loop from right i₀ i = i ≤ 14
 abbrev μ-loop : tie.MeasureT-loop
 μ-loop from right i₀ i = 14 - i
 
-hex-requires : tie.Need-hex-requires Inv-loop μ-loop
-hex-requires c κs = search needs
+word-requires : tie.Need-word-requires Inv-loop μ-loop
+word-requires c κs = search needs
 
 show-right-requires : tie.Need-show-right-requires Inv-loop μ-loop
 show-right-requires c κs = search needs
@@ -54,7 +54,7 @@ show-spec =
     (tie.spec
     Inv-loop
     μ-loop
-    hex-requires
+    word-requires
     show-right-requires
     loop-holds
     sheet-layout-requires

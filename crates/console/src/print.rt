@@ -6,16 +6,25 @@ pub fn text(t: &[u8]) {
     io::write_all(STDOUT_FILENO, t);
 }
 
-// One byte.
-pub fn byte(b: u8) {
-    let one = [b];
-    io::write_all(STDOUT_FILENO, &one);
+// The end of the line.
+pub fn end_line() {
+    text(b"\n");
 }
 
-// A word after a space: four hexadecimal digits.
+// The line of what cannot be read or done: a question mark.
+pub fn unknown() {
+    text(b"?\n");
+}
+
+// A word: four hexadecimal digits.
+pub fn word(w: u16) {
+    io::print_hex(STDOUT_FILENO, w as u64, 4);
+}
+
+// A word after a space.
 pub fn space_word(w: u16) {
     text(b" ");
-    io::print_hex(STDOUT_FILENO, w as u64, 4);
+    word(w);
 }
 
 // A number after a space, hexadecimal.
@@ -31,18 +40,13 @@ pub fn space_decimal(n: u64) {
 }
 
 // A letter after a space.
-pub fn space_letter(b: u8) {
-    text(b" ");
-    byte(b);
+pub fn space_letter(letter: u8) {
+    let field = [b' ', letter];
+    text(&field);
 }
 
 // A refusal: E and its number.
 pub fn refusal(number: u8) {
     text(b" E");
     space_decimal(number as u64);
-}
-
-// The end of the line.
-pub fn end_line() {
-    text(b"\n");
 }
