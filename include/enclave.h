@@ -31,7 +31,10 @@ enum {
 /* The last stamp, and the last clock value at which a machine steps: 2^62. */
 #define ENCLAVE_LAST_CLOCK UINT64_C(0x4000000000000000)
 
-/* Why a call is refused. A call tries these in the order of their numbers, as far as they concern what it takes. */
+/*
+ * Why a call is refused. A call tries these in the order of their numbers, as far as they concern what it takes. The sheet reader tries
+ * ENCLAVE_SHEET first and then goes line by line, on a line ENCLAVE_LINE first.
+ */
 enum enclave_refusal {
     ENCLAVE_TAKEN = 0,     /* the call is not refused */
     ENCLAVE_MAP = 1,       /* memory isn't 65,536 bytes */
@@ -45,11 +48,16 @@ enum enclave_refusal {
     ENCLAVE_WORD = 9       /* no such instruction */
 };
 
-/* What a step did: its letter on a bench transcript. */
+/*
+ * What a step did: its letter on a bench transcript. A machine that came from its start state by steps and runs with one layout and
+ * timetable keeps the twelve cycles: a request that fills the slot during an instruction inside (not a reset) or in the padding after a
+ * return, with GIE set, reaches service exactly twelve cycles after its stamp. A state that a caller made up may have an older request
+ * pending, whose service may start later.
+ */
 enum enclave_kind {
     ENCLAVE_RAN = 'R',
     ENCLAVE_PLAIN = 'I',   /* ran, and outside code was interrupted */
-    ENCLAVE_PADDED = 'P',  /* the module was interrupted: service starts twelve cycles after the request */
+    ENCLAVE_PADDED = 'P',  /* the module was interrupted: service starts twelve cycles after the request, as above */
     ENCLAVE_CHAINED = 'C', /* RETI found another request waiting; the module stays held */
     ENCLAVE_BACK = 'B',    /* RETI took the machine back into the module */
     ENCLAVE_RESET = 'X',
@@ -105,9 +113,10 @@ enum enclave_row {
 
 /*
  * The state of a machine beside its memory. registers[0] is pc, [1] sp, [2] sr; [3] is 0. Where held is 0, the saved registers,
- * held_previous and held_age mean nothing and are not looked at; start and every step that is made then hand them back as 0. (A call
- * that makes no step, of a halted machine or with budget 0, hands the saved registers back as they came.) The arrays in the unions are
- * for the functions below.
+ * held_previous and held_age mean nothing and are not looked at. Where a call that is not refused leaves held at 0, it hands
+ * held_previous and held_age back as 0, also if it makes no step, and the saved registers as 0 if it is start or makes a step. A call
+ * that makes no step, of a halted machine or with budget 0, hands everything else back as it came, the saved registers too. The arrays in
+ * the unions are for the functions below.
  */
 struct enclave_machine {
     uint16_t registers[16];

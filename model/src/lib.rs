@@ -1,6 +1,8 @@
 //! A separate, literal interpreter of the machine of document 01.
 //!
 //! One module a paragraph, nothing clever. Quotations are from document 01.
+//! It was written from that and from the readings of it that stand in
+//! docs/DECISIONS.md, not from crates/.
 //! Build with cargo, or:
 //!
 //! ```text

@@ -2,7 +2,8 @@
 //! `include/enclave.h` says what each field means.
 //!
 //! Each function answers 0 or the number of a [`Refusal`](crate::Refusal), which leaves everything
-//! that was lent as it came. Any number in any field is either meant or refused.
+//! that was lent as it came, but for the line that the sheet reader tells. Any number in any field is
+//! either meant or refused.
 //!
 //! # Safety
 //!

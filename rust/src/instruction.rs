@@ -28,7 +28,7 @@ pub enum Operand {
 }
 
 /// An instruction with its source and then its destination. Some combinations have no words, as MOV
-/// with destination pc; writing refuses those.
+/// of a register to pc; writing refuses those.
 #[derive(Clone, Copy, Debug, PartialEq, Eq, Hash)]
 pub enum Instruction {
     /// HLT.

@@ -18,8 +18,8 @@
 //!
 //! There is no global state: a call works on what it is lent and on nothing else, so the types are
 //! `Send` and `Sync` by construction, and threads may run different machines at the same time. The
-//! library allocates nothing. In this crate only [`Memory`], [`Timetable`] and [`Setup`] own memory
-//! from the heap; step and run allocate nothing.
+//! library allocates nothing. In this crate only [`Memory`], [`Timetable`], [`Setup`] and
+//! [`raw::Places`] own memory from the heap; start, step and run allocate nothing.
 //!
 //! ```
 //! use enclave::{Budget, End, Layout, Machine, Memory, Timetable};

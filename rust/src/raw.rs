@@ -1,6 +1,7 @@
 //! The exported functions on plain numbers. Each is safe to call with any of them, since every value
 //! is either meant or refused: it answers 0, or the number of the refusal, which leaves all that was
-//! lent as it came. See `include/enclave.h` for what the numbers mean.
+//! lent as it came, but for the line that the sheet reader tells ([`Places::read`]). See
+//! `include/enclave.h` for what the numbers mean.
 
 use crate::ffi;
 use crate::{MEMORY_SIZE, MOST_STAMPS};

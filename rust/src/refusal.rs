@@ -28,7 +28,8 @@ pub enum Refusal {
 }
 
 impl Refusal {
-    /// All nine, in the order in which a call tries them.
+    /// All nine, in the order in which a call tries those that concern it. Only the reader of a sheet
+    /// tries *sheet* first, and *line* before the others of a line.
     pub const ALL: [Refusal; 9] = [
         Refusal::Map,
         Refusal::Fence,

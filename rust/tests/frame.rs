@@ -159,3 +159,34 @@ fn fields_of_no_visit_are_not_looked_at() {
         ([0; 16], &[0, 0, 0][..])
     );
 }
+
+// Nothing is held, and the fields of a held visit are noise, before a call that makes no step.
+fn noisy(halted: u16) -> Lent {
+    let mut lent = Lent::fresh();
+    lent.machine.saved = [0xFFFF; 16];
+    lent.machine.control[1..].copy_from_slice(&[halted, 0, 0xFFFF, 0xFFFF]);
+    lent.budget = 0;
+    lent
+}
+
+// Of the machine, such a call alters only the held previous address and the held age, which become 0.
+fn only_control_settles(call: fn(&mut Lent) -> u8, halted: u16) {
+    let mut lent = noisy(halted);
+    let mut settled = lent.machine.clone();
+    settled.control[3..].copy_from_slice(&[0, 0]);
+    assert_eq!((call(&mut lent), &lent.machine), (0, &settled));
+}
+
+#[test]
+fn call_without_a_step_keeps_the_saved_registers() {
+    only_control_settles(Lent::step, 1);
+    only_control_settles(Lent::run, 1);
+    only_control_settles(Lent::run, 0);
+}
+
+#[test]
+fn refused_call_keeps_the_fields_of_no_visit() {
+    let mut lent = noisy(0);
+    lent.machine.registers[3] = 1;
+    lent.refused(4);
+}

@@ -3,7 +3,7 @@
 mod support;
 
 use enclave::{Budget, Cause, End, Kind, Memory, Refusal, Setup, SheetRefusal};
-use support::{paper_setup, transcript, worked_sheet};
+use support::{model_transcript, paper_setup, transcript, worked_sheet};
 
 // The clocks at which a sheet's padded services start.
 fn padded_clocks(name: &str) -> Vec<u64> {
@@ -13,6 +13,15 @@ fn padded_clocks(name: &str) -> Vec<u64> {
         .map(|line| line.split('\t').collect::<Vec<_>>());
     let padded = fields.filter(|f| f[1] == "P");
     padded.map(|f| f[2].parse().unwrap()).collect()
+}
+
+// The registers with which a sheet's run ends.
+fn last_registers(name: &str) -> [u16; 16] {
+    let mut setup = Setup::read(&worked_sheet(name)).unwrap();
+    let mut machine = setup.start();
+    let stop = machine.run(&mut setup.memory, &setup.timetable, setup.budget);
+    assert_eq!(stop.unwrap().end, End::Halted);
+    *machine.registers()
 }
 
 #[test]
@@ -27,6 +36,77 @@ fn password_check_tells_nothing() {
     for name in ["password-right", "password-wrong"] {
         assert!(transcript(&worked_sheet(name)).ends_with("\t405\n"));
     }
+    let [right, wrong] = ["password-right", "password-wrong"].map(last_registers);
+    assert_eq!(right, wrong);
+}
+
+// The two sheets of the check that is not balanced.
+const UNBALANCED: [&str; 2] = ["unbalanced-right", "unbalanced-wrong"];
+
+// The lines of a transcript for the steps that begin outside, each without its step's number: kind,
+// clock, pc and status.
+fn outside_lines(name: &str, text: &str) -> Vec<[String; 4]> {
+    let Setup { layout, memory, .. } = Setup::read(&worked_sheet(name)).unwrap();
+    let mut begins_at = memory.word(0xFFFE);
+    let mut lines = Vec::new();
+    for line in text.lines().skip(1) {
+        let fields: Vec<&str> = line.split('\t').collect();
+        let [_, kind, clock, pc, status] = fields[..] else {
+            break;
+        };
+        if !layout.code().contains(&begins_at) && !layout.data().contains(&begins_at) {
+            lines.push([kind, clock, pc, status].map(String::from));
+        }
+        begins_at = u16::from_str_radix(pc, 16).unwrap();
+    }
+    lines
+}
+
+#[test]
+fn unbalanced_transcripts_are_the_models() {
+    for name in UNBALANCED {
+        assert_eq!(transcript(&worked_sheet(name)), model_transcript(name));
+    }
+}
+
+#[test]
+fn unbalanced_check_tells_by_the_clock_alone() {
+    let [right, wrong] = UNBALANCED.map(|name| outside_lines(name, &model_transcript(name)));
+    let clocks = |lines: &[[String; 4]]| lines.iter().map(|l| l[1].clone()).collect::<Vec<_>>();
+    assert_eq!(clocks(&right), ["2", "4", "6", "8", "32", "33"]);
+    assert_eq!(clocks(&wrong), ["2", "4", "6", "8", "30", "31"]);
+    for (r, w) in right.iter().zip(&wrong) {
+        assert_eq!((&r[0], &r[2..]), (&w[0], &w[2..]));
+    }
+    let read_by_in = UNBALANCED.map(|name| last_registers(name)[10]);
+    assert_eq!(read_by_in, [30, 28]);
+}
+
+// The registers with which a sheet's module is left, and the cycles that its visit took.
+fn exit_of(name: &str) -> ([u16; 16], u64) {
+    let mut setup = Setup::read(&worked_sheet(name)).unwrap();
+    let mut machine = setup.start();
+    let mut entered = None;
+    loop {
+        let inside = setup.layout.code().contains(&machine.pc());
+        match entered {
+            None if inside => entered = Some(machine.clock()),
+            Some(clock) if !inside => return (*machine.registers(), machine.clock() - clock),
+            _ => {}
+        }
+        machine.step(&mut setup.memory, &setup.timetable).unwrap();
+    }
+}
+
+#[test]
+fn unbalanced_sheets_differ_in_one_word_and_in_own_cycles() {
+    let [right, wrong] = UNBALANCED.map(|name| String::from_utf8(worked_sheet(name)).unwrap());
+    assert_eq!(right.lines().count(), wrong.lines().count());
+    let differ = right.lines().zip(wrong.lines()).filter(|(r, w)| r != w);
+    let lines: Vec<(&str, &str)> = differ.collect();
+    assert_eq!(lines, [("M\t8100\t1234", "M\t8100\t4321")]);
+    let [(right, right_cycles), (wrong, wrong_cycles)] = UNBALANCED.map(exit_of);
+    assert_eq!((right, right_cycles, wrong_cycles), (wrong, 22, 20));
 }
 
 // The first kind of a sheet's steps that is a reset.

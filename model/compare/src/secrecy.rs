@@ -1,5 +1,5 @@
-//! Demand 3 at random: two machines that differ in the module's bytes only look the same to all
-//! outside code.
+//! Demand 3 at random: two machines that differ in the module's bytes only, and whose visits end
+//! alike, look the same to all outside code.
 
 use crate::calm::{self, Manner};
 use crate::counts::{Counts, Event};

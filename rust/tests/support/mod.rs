@@ -41,10 +41,20 @@ pub fn transcript(sheet: &[u8]) -> String {
     String::from_utf8(out).unwrap()
 }
 
+// A file of the worked sheets.
+fn sheets_file(name: &str) -> Vec<u8> {
+    let folder = concat!(env!("CARGO_MANIFEST_DIR"), "/../sheets");
+    std::fs::read(format!("{folder}/{name}")).unwrap()
+}
+
 /// A worked sheet of the repository.
 pub fn worked_sheet(name: &str) -> Vec<u8> {
-    let folder = concat!(env!("CARGO_MANIFEST_DIR"), "/../sheets");
-    std::fs::read(format!("{folder}/{name}.sheet")).unwrap()
+    sheets_file(&format!("{name}.sheet"))
+}
+
+/// The transcript of a worked sheet that the separate model wrote.
+pub fn model_transcript(name: &str) -> String {
+    String::from_utf8(sheets_file(&format!("{name}.transcript"))).unwrap()
 }
 
 /// The fields of a machine at its start, with pc at this address.
