@@ -5,6 +5,7 @@ use mathlib.Core.List.{List, []}
 use Prim.Native.Nat.{ℕ}
 use Rattle.base.specs.declared.refusal.Refusal.{Refusal}
 use Rattle.base.specs.declared.refusal.Refusal.the-variants.{Map}
+use Rattle.base.specs.declared.verdict.Verdict.{Verdict}
 use Rattle.base.specs.declared.verdict.Verdict.the-variants.{Taken as taken, Refused as refused}
 use Rattle.base.specs.FirstFailure.{firstFailure}
 use Rattle.base.specs.Verdict.{verdict}
@@ -23,9 +24,9 @@ use Rattle.definition.specs.Time.{startTime}
 use Rattle.definition.specs.State.{World, world, resetAddress, resetState, start}
 use Rattle.definition.specs.Interrupt.{Step, gives}
 use Rattle.definition.specs.Run.{stepOf}
-use Rattle.definition.specs.Calls.{wholeMemory, startTests, stepTests, runTests, called, runAnswered, startCall}
+use Rattle.definition.specs.Calls.{wholeMemory, timetable, startTests, stepTests, runTests, called, runAnswered, startCall}
 use Rattle.definition.specs.Promises.{StartPromise, StepPromise, RunPromise}
-use Rattle.definition.proofs.run.CallLaws.{start-promised, step-promised, run-promised, step-call, run-call}
+use Rattle.definition.proofs.run.CallLaws.{Fit, step-fit, run-fit, start-promised, step-promised, run-promised, step-call, run-call}
 use Rattle.act.specs.declared.control.Control.{Control}
 use Rattle.act.specs.Control.{withRegisters, controlOf}
 
@@ -50,23 +51,27 @@ module _ (mem : List ℕ) where
 
 -- ---- step and run
 
-module _ (S : Setting) (w : World) where
-  pub step-refused : (r : Refusal) → verdict (stepTests S w) ≡ refused r → StepPromise S w w (NotStepped r)
-  step-refused r e = step-promised S w w (NotStepped r) (sym (step-call S w (refused r) e))
+module _ (S : Setting) (w : World) (v : Verdict) where
+  module _ (same : v ≡ verdict (stepTests S w)) where
+    pub step-refused : (r : Refusal) → v ≡ refused r → StepPromise S w w (NotStepped r)
+    step-refused r e = step-promised S w w (NotStepped r) (sym (step-call S w (refused r) (sym same ∙ e)))
 
-  pub step-taken : verdict (stepTests S w) ≡ taken → (m : State) (bytes : List ℕ) (o : Outcome) → gives m bytes o ≡ stepOf S w
-      → StepPromise S w (world m bytes) (HasStepped o)
-  step-taken e m bytes o h =
-      step-promised S w (world m bytes) (HasStepped o)
-      (ap (λ (s : Step). called (s .state) (s .memory) (HasStepped (s .outcome))) h ∙ sym (step-call S w taken e))
+    pub step-taken : v ≡ taken → (m : State) (bytes : List ℕ) (o : Outcome) → (Fit S w → gives m bytes o ≡ stepOf S w)
+        → StepPromise S w (world m bytes) (HasStepped o)
+    step-taken e m bytes o h =
+        step-promised S w (world m bytes) (HasStepped o)
+        (ap (λ (s : Step). called (s .state) (s .memory) (HasStepped (s .outcome))) (h (step-fit S w (sym same ∙ e)))
+        ∙ sym (step-call S w taken (sym same ∙ e)))
 
-  module _ (budget : ℕ) where
-    pub run-refused : (r : Refusal) → verdict (runTests S budget w) ≡ refused r → RunPromise S budget w w (NotRun r)
-    run-refused r e = run-promised S w w budget (NotRun r) (sym (run-call S w (refused r) budget e))
+  module _ (budget : ℕ) (same : v ≡ verdict (runTests S budget w)) where
+    pub run-refused : (r : Refusal) → v ≡ refused r → RunPromise S budget w w (NotRun r)
+    run-refused r e = run-promised S w w budget (NotRun r) (sym (run-call S w (refused r) budget (sym same ∙ e)))
 
-    pub run-taken : verdict (runTests S budget w) ≡ taken → (m : State) (bytes : List ℕ) (answer : RunAnswer)
-        → called m bytes answer ≡ runAnswered S budget w taken → RunPromise S budget w (world m bytes) answer
-    run-taken e m bytes answer h = run-promised S w (world m bytes) budget answer (h ∙ sym (run-call S w taken budget e))
+    pub run-taken : v ≡ taken → (m : State) (bytes : List ℕ) (answer : RunAnswer)
+        → (timetable (S .stamps) ≡ true → called m bytes answer ≡ runAnswered S budget w taken) → RunPromise S budget w (world m bytes) answer
+    run-taken e m bytes answer h =
+        let t = sym same ∙ e in
+        run-promised S w (world m bytes) budget answer (h (run-fit S budget w t .timed) ∙ sym (run-call S w taken budget t))
 
 -- what a call leaves of a machine apart, it leaves of it joined
 module _ (S : Setting) (mem bytes rs saved : List ℕ) (m next : State) (c d : Control) (e : c ≡ controlOf m) (f : next ≡ withRegisters rs saved d) where

@@ -1,14 +1,16 @@
 // What callers can do: start, step, run. Whatever they hand in, they get the definition's answer or one numbered refusal.
+ghost use mathlib.Core.Path.{_≡_};
+ghost use mathlib.Core.Bool.{true};
+ghost use Rattle.base.specs.declared.verdict.Verdict.the-variants.{Taken as TAKEN};
 ghost use Rattle.definition.specs.Setting.{settingOf};
 ghost use Rattle.definition.specs.State.{world};
+ghost use Rattle.definition.specs.Calls.{timetable, called, runAnswered};
 ghost use Rattle.definition.specs.Promises.{StartPromise, StepPromise, RunPromise};
 ghost use Rattle.act.specs.Control.{withRegisters};
 use crate::answer::Ran;
 use crate::answer::Started;
 use crate::answer::Stepped;
 use crate::answer::SteppedInPlace;
-use crate::in_place::one_step;
-use crate::run::run_steps;
 use act::control::Control;
 use act::registers::cleared_registers;
 use admission::verdict::judge_run;
@@ -16,14 +18,17 @@ use admission::verdict::judge_step;
 use admission::verdict::memory_is_whole;
 use base::refusal::Refusal;
 use base::verdict::Verdict;
+use clock::time::find_upcoming;
 use clock::time::start_time;
 use definition::answer::RunAnswer;
 use definition::answer::StartAnswer;
 use definition::answer::StepAnswer;
 use definition::state::State;
+use inplace::in_place::one_step;
 use interrupt::service::reset_address;
 use interrupt::service::reset_state;
 use layout::sections::Layout;
+use run::run::run_in_place;
 
 // The machine that callers hold, a state: each call takes it by value and hands the next one back. Memory is lent beside it.
 pub struct Machine(pub State);
@@ -85,28 +90,53 @@ impl Machine {
 
 // One step of a state whose registers are lent: they are changed where they lie.
 pub fn step_in_place(
-    rest: Control,
+    control: Control,
     registers: &mut [u16; 16],
     saved: &mut [u16; 16],
     mem: &mut [u8],
     layout: Layout,
     stamps: &[u64],
 ) -> SteppedInPlace
-    ensures { λ r. ⌜ StepPromise (settingOf layout (now (stamps .entry))) (world (withRegisters (now (registers .entry)) (now (saved .entry)) rest) (now (mem .entry))) (world (withRegisters (now (registers .exit)) (now (saved .exit)) (r .control)) (now (mem .exit))) (r .answer) ⌝ }
+    ensures { λ r. ⌜ StepPromise (settingOf layout (now (stamps .entry))) (world (withRegisters (now (registers .entry)) (now (saved .entry)) control) (now (mem .entry))) (world (withRegisters (now (registers .exit)) (now (saved .exit)) (r .control)) (now (mem .exit))) (r .answer) ⌝ }
 {
-    match judge_step(rest, registers, saved, mem, layout, stamps) {
+    match judge_step(control, registers, saved, mem, layout, stamps) {
         Verdict::Refused(refusal) => SteppedInPlace {
-            control: rest,
+            control: control,
             answer: StepAnswer::Refused(refusal),
         },
         Verdict::Taken => {
-            let moved = one_step(rest, registers, saved, mem, layout, stamps);
-            let control = moved.control;
+            let upcoming = find_upcoming(stamps, control.time.clock);
+            let moved = one_step(control, registers, saved, mem, layout, stamps, upcoming);
+            let next = moved.control;
             let outcome = moved.outcome;
             SteppedInPlace {
-                control: control,
+                control: next,
                 answer: StepAnswer::Done(outcome),
             }
         }
+    }
+}
+
+// The steps of a run.
+fn run_steps(m: State, mem: &mut [u8], layout: Layout, stamps: &[u64], budget: u64) -> Ran
+    ensures { λ r. ⌜ (timetable (now (stamps .entry)) ≡ true → called (r .machine .0) (now (mem .exit)) (r .answer) ≡ runAnswered (settingOf layout (now (stamps .entry))) budget (world m (now (mem .entry))) TAKEN) ⌝ }
+{
+    let mut registers = m.registers;
+    let mut saved = m.saved;
+    let control = Control::of(m);
+    let done = run_in_place(
+        control,
+        &mut registers,
+        &mut saved,
+        mem,
+        layout,
+        stamps,
+        budget,
+    );
+    let last = done.control;
+    let answer = done.answer;
+    Ran {
+        machine: Machine(last.state(registers, saved)),
+        answer: answer,
     }
 }

@@ -1,5 +1,3 @@
 // What callers reach: start, step and run.
 pub mod answer;
 pub mod calls;
-mod in_place;
-mod run;

@@ -1,9 +1,7 @@
-use mathlib.Core.Path.{sym, _∙_}
 use denote.Ref.{now}
 use Rattle.definition.specs.Setting.{settingOf}
 use Rattle.definition.specs.State.{world}
 use Rattle.act.specs.Control.{withRegisters}
-use Rattle.definition.proofs.run.CallLaws.{step-fit}
 use Rattle.machine.proofs.AnswerLaws.{step-refused, step-taken}
 use borrow.Author.Needs.{needs}
 use Rattle.machine.proofs.calls.step_in_place.Statement.{statement}
@@ -18,12 +16,11 @@ enum-known-refusal c = search needs
 enum-told : tie.Need-enum-told
 enum-told c = search needs
 
+find-upcoming-requires : tie.Need-find-upcoming-requires
+find-upcoming-requires c κs = search needs
+
 one-step-requires : tie.Need-one-step-requires
-one-step-requires c κs =
-    let a = c .before .before .before .before .before .before .before .before .before .before .before .args in
-    let f = step-fit (settingOf (a .layout) (now (a .stamps))) (world (withRegisters (now (a .registers)) (now (a .saved)) (a .rest)) (now (a .mem)))
-    (sym (c .before .before .before .before .before .judge-step .ensures) ∙ c .before .before .before .enum-told .given .1) in
-    (f .timed, f .early)
+one-step-requires c κs = search needs
 
 same-length : tie.Need-same-length
 same-length c = search needs
@@ -31,17 +28,20 @@ same-length c = search needs
 returns : tie.Need-returns
 returns c =
     let a = c .before .before .before .before .before .before .before .before .before .args in
-    step-refused (settingOf (a .layout) (now (a .stamps))) (world (withRegisters (now (a .registers)) (now (a .saved)) (a .rest)) (now (a .mem))) _
-    (sym (c .before .before .before .judge-step .ensures) ∙ c .before .refusal .given .1)
+    let v = c .before .before .before .judge-step in
+    step-refused (settingOf (a .layout) (now (a .stamps))) (world (withRegisters (now (a .registers)) (now (a .saved)) (a .control)) (now (a .mem)))
+    (v .result) (v .ensures) _ (c .before .refusal .given .1)
 
 same-length-2 : tie.Need-same-length-2
 same-length-2 c = search needs
 
 returns-2 : tie.Need-returns-2
 returns-2 c =
-    let a = c .before .before .before .before .before .before .before .before .before .before .before .before .before .before .before .args in
-    step-taken (settingOf (a .layout) (now (a .stamps))) (world (withRegisters (now (a .registers)) (now (a .saved)) (a .rest)) (now (a .mem)))
-    (sym (c .before .before .before .before .before .before .before .before .before .judge-step .ensures) ∙ c .before .before .before .before .before .before .before .enum-told .given .1) _ _ _ (c .before .before .before .one-step .ensures)
+    let a = c .before .before .before .before .before .before .before .before .before .before .before .before .before .before .before .before .args in
+    let v = c .before .before .before .before .before .before .before .before .before .before .judge-step in
+    step-taken (settingOf (a .layout) (now (a .stamps))) (world (withRegisters (now (a .registers)) (now (a .saved)) (a .control)) (now (a .mem)))
+    (v .result) (v .ensures) (c .before .before .before .before .before .before .before .before .enum-told .given .1) _ _ _
+    (λ f. c .before .before .before .one-step .ensures (f .timed) (f .early) (c .before .before .before .before .before .before .before .find-upcoming .ensures (f .timed)))
 
 pub step-in-place-spec : {M : Type 1} → statement M
 step-in-place-spec =
@@ -50,6 +50,7 @@ step-in-place-spec =
     judge-step-requires
     enum-known-refusal
     enum-told
+    find-upcoming-requires
     one-step-requires
     same-length
     returns

@@ -1,8 +1,6 @@
-use mathlib.Core.Path.{sym, _∙_}
 use denote.Ref.{now}
 use Rattle.definition.specs.Setting.{settingOf}
 use Rattle.definition.specs.State.{world}
-use Rattle.definition.proofs.run.CallLaws.{run-fit}
 use Rattle.machine.proofs.AnswerLaws.{run-refused, run-taken}
 use borrow.Author.Needs.{needs}
 use Rattle.machine.proofs.calls.Machine.run.Statement.{statement}
@@ -18,10 +16,7 @@ enum-told : tie.Need-enum-told
 enum-told c = search needs
 
 run-steps-requires : tie.Need-run-steps-requires
-run-steps-requires c κs =
-    let a = c .before .before .before .before .before .before .before .before .args in
-    let f = run-fit (settingOf (a .layout) (now (a .stamps))) (a .budget) (world (a .self .0) (now (a .mem))) (sym (c .before .before .before .judge-run .ensures) ∙ c .before .enum-told .given .1) in
-    f .timed
+run-steps-requires c κs = search needs
 
 same-length : tie.Need-same-length
 same-length c = search needs
@@ -29,7 +24,8 @@ same-length c = search needs
 returns : tie.Need-returns
 returns c =
     let a = c .before .before .before .before .before .before .before .before .args in
-    run-refused (settingOf (a .layout) (now (a .stamps))) (world (a .self .0) (now (a .mem))) (a .budget) _ (sym (c .before .before .before .judge-run .ensures) ∙ c .before .refusal .given .1)
+    let v = c .before .before .before .judge-run in
+    run-refused (settingOf (a .layout) (now (a .stamps))) (world (a .self .0) (now (a .mem))) (v .result) (a .budget) (v .ensures) _ (c .before .refusal .given .1)
 
 same-length-2 : tie.Need-same-length-2
 same-length-2 c = search needs
@@ -37,7 +33,9 @@ same-length-2 c = search needs
 returns-2 : tie.Need-returns-2
 returns-2 c =
     let a = c .before .before .before .before .before .before .before .before .before .before .before .args in
-    run-taken (settingOf (a .layout) (now (a .stamps))) (world (a .self .0) (now (a .mem))) (a .budget) (sym (c .before .before .before .before .before .before .judge-run .ensures) ∙ c .before .before .before .before .enum-told .given .1) _ _ _ (c .before .before .run-steps .ensures)
+    let v = c .before .before .before .before .before .before .judge-run in
+    run-taken (settingOf (a .layout) (now (a .stamps))) (world (a .self .0) (now (a .mem))) (v .result) (a .budget) (v .ensures) (c .before .before .before .before .enum-told .given .1)
+    _ _ _ (c .before .before .run-steps .ensures)
 
 pub run-spec : {M : Type 1} → statement M
 run-spec =

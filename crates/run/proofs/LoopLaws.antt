@@ -35,34 +35,33 @@ module _ (S : Setting) where
     pub some : 1 ≤ k
     pub within : k ≤ left
     pub rises : w .state .time .clock ≤ next .state .time .clock
-    pub size : length (next .memory) ≡ length (w .memory)
     pub lands : (n : ℕ) → runFrom S n left w ≡ runFrom S (n + k) (left - k) next
 
-  -- a run that has made n steps of its budget and is at this world and upcoming stamp
+  -- a run of a timetable that has made n steps of its budget and is at this world and upcoming stamp
   pub record LoopKeeps (budget : ℕ) (from w : World) (n upcoming : ℕ) : Type 0 where
-    pub size : length (w .memory) ≡ length (from .memory)
-    pub within : n ≤ budget
     pub upcomingHere : IsUpcoming (S .stamps) (w .state .time .clock) upcoming
     pub lands : run S budget from ≡ runFrom S n (budget - n) w
+
+  -- a run, whatever its stamps
+  pub record RunKeeps (budget : ℕ) (from w : World) (n upcoming : ℕ) : Type 0 where
+    pub size : length (w .memory) ≡ length (from .memory)
+    pub within : n ≤ budget
+    pub timed : timetable (S .stamps) ≡ true → LoopKeeps budget from w n upcoming
 
   pub loop-first : (budget : ℕ) (w : World) (upcoming : ℕ)
       → IsUpcoming (S .stamps) (w .state .time .clock) upcoming → LoopKeeps budget w w 0 upcoming
   unfolding run
   loop-first budget w upcoming p =
       let e : budget - 0 ≡ budget = omega arith in
-      record { size = refl; within = omega arith; upcomingHere = p; lands = rw e }
+      record { upcomingHere = p; lands = rw e }
 
   module _ (budget : ℕ) (from w : World) (n upcoming : ℕ) (t : LoopKeeps budget from w n upcoming) where
     -- a step of the loop
     pub loop-next : (k : ℕ) (next : World) → LoopStep (budget - n) w k next → (further : ℕ)
         → IsUpcoming (S .stamps) (next .state .time .clock) further → LoopKeeps budget from next (n + k) further
     loop-next k next u further p =
-        let i = t .within in
-        let j = u .within in
         let e : budget - n - k ≡ budget - (n + k) = omega arith in
         record {
-          size = u .size ∙ t .size;
-          within = omega arith;
           upcomingHere = p;
           lands = t .lands ∙ u .lands n ∙ ap (λ (z : ℕ). runFrom S (n + k) z next) e;
         }

@@ -4,7 +4,6 @@ use mathlib.Core.Bool.{false}
 use mathlib.Core.List.{List}
 use Prim.Native.Nat.{ℕ, suc, _+_, _-_, _≤_}
 use native.Mathlib.Omega.{arith}
-use lib.ListN.{length}
 use Rattle.base.specs.Limits.{lastClock}
 use Rattle.definition.specs.Setting.{Setting}
 use Rattle.definition.specs.declared.answer.Outcome.the-variants.{Ran}
@@ -12,10 +11,8 @@ use Rattle.definition.specs.State.{World}
 use Rattle.definition.specs.Interrupt.{Step, gives}
 use Rattle.definition.specs.Run.{worldAfter, stepOf, runFrom, stopOr}
 use Rattle.fast.specs.Steps.{RanSteps, none, on}
-use Rattle.definition.specs.Laws.{LengthKept}
 use Rattle.definition.proofs.step.CycleLaws.{clock-rises}
-use Rattle.definition.proofs.step.TouchLaws.{length-kept}
-use Rattle.machine.proofs.LoopLaws.{LoopStep, ending-goes}
+use Rattle.run.proofs.LoopLaws.{LoopStep, ending-goes}
 
 module _ (S : Setting) where
   looped : (n left : ℕ) (w next : World) → w .state .halted ≡ false → w .state .time .clock ≤ lastClock
@@ -47,12 +44,6 @@ module _ (S : Setting) where
       let f = ap (λ (z : Step). z .state .time .clock) s in
       omega arith
 
-  ran-size : (from : World) (k : ℕ) (w : World) → RanSteps S from k w → length (w .memory) ≡ length (from .memory)
-  unfolding LengthKept
-  ran-size from k w none = refl
-  ran-size from k w (on j m v next l h c s e) =
-      ap (λ (z : Step). length (z .memory)) (sym s) ∙ length-kept S (v .state) (v .memory) ∙ ran-size from j v l
-
   -- a step of the loop by fast steps, and one by a full step
   pub loop-step-fast : (left : ℕ) (from : World) (k : ℕ) (w : World) → RanSteps S from k w → 1 ≤ k → k ≤ left
       → LoopStep S left from k w
@@ -61,13 +52,11 @@ module _ (S : Setting) where
         some = h;
         within = i;
         rises = ran-rises from k w l;
-        size = ran-size from k w l;
         lands = λ n. ran-lands from k w l n left i;
       }
 
   pub loop-step-full : (left : ℕ) (w next : World) → w .state .halted ≡ false → w .state .time .clock ≤ lastClock → 1 ≤ left
       → next ≡ worldAfter (stepOf S w) → LoopStep S left w 1 next
-  unfolding LengthKept
   loop-step-full left w next h c i e =
       let r = clock-rises S (w .state) (w .memory) h in
       let f = ap (λ (z : World). z .state .time .clock) e in
@@ -76,18 +65,5 @@ module _ (S : Setting) where
         some = omega arith;
         within = i;
         rises = omega arith;
-        size = ap (λ (z : World). length (z .memory)) e ∙ length-kept S (w .state) (w .memory);
         lands = λ n. ap (λ (z : ℕ). runFrom S n z w) s ∙ looped n (left - 1) w next h c (sym e);
       }
-
-  -- no fast step, and one
-  pub ran-none : (from : World) (k : ℕ) (w : World) → RanSteps S from k w → k ≡ 0 → w ≡ from
-  ran-none from k w none z = refl
-  ran-none from k w (on j m v next l h c s e) z = absurd (omega arith)
-
-  pub ran-one : (from : World) (k : ℕ) (w : World) → RanSteps S from k w → 1 ≤ k → k ≤ 1
-      → stepOf S from ≡ gives (w .state) (w .memory) Ran
-  ran-one from k w none i j = absurd (omega arith)
-  ran-one from k w (on j m v next l h c s e) i o =
-      let z : j ≡ 0 = omega arith in
-      ap (stepOf S) (sym (ran-none from j v l z)) ∙ s

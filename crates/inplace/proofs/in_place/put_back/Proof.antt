@@ -2,8 +2,8 @@ use mathlib.Core.Path.{ap}
 use borrow.Author.Needs.{needs}
 use Rattle.act.specs.declared.control.Control.{Control}
 use Rattle.act.specs.Control.{withRegisters}
-use Rattle.machine.proofs.in_place.put_back.Statement.{statement}
-use Rattle.machine.proofs.in_place.put_back.Tie as tie
+use Rattle.inplace.proofs.in_place.put_back.Statement.{statement}
+use Rattle.inplace.proofs.in_place.put_back.Tie as tie
 
 of-requires : tie.Need-of-requires
 of-requires c κs = search needs

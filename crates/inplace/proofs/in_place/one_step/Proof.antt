@@ -5,13 +5,10 @@ use borrow.Author.Needs.{needs}
 use Rattle.definition.specs.Setting.{settingOf}
 use Rattle.definition.specs.declared.state.State.{State}
 use Rattle.definition.specs.Run.{stepOf}
-use Rattle.machine.proofs.FastRun.{ran-one}
-use Rattle.machine.proofs.InPlaceLaws.{fast-ran, burst-none, burst-some, full-gives, can-pass-at}
-use Rattle.machine.proofs.in_place.one_step.Statement.{statement}
-use Rattle.machine.proofs.in_place.one_step.Tie as tie
-
-find-upcoming-requires : tie.Need-find-upcoming-requires
-find-upcoming-requires c κs = search needs
+use Rattle.inplace.proofs.RanLaws.{ran-one}
+use Rattle.inplace.proofs.InPlaceLaws.{fast-ran, burst-none, burst-some, full-gives, can-pass-at}
+use Rattle.inplace.proofs.in_place.one_step.Statement.{statement}
+use Rattle.inplace.proofs.in_place.one_step.Tie as tie
 
 element-copy-out-fast-until : tie.Need-element-copy-out-fast-until
 element-copy-out-fast-until c = search needs
@@ -41,31 +38,29 @@ same-length-2 : tie.Need-same-length-2
 same-length-2 c = search needs
 
 fast-until-requires : tie.Need-fast-until-requires
-fast-until-requires c κs = let p = c .before .before .before .before .pre in (p .0, c .before .find-upcoming .ensures (p .0))
+fast-until-requires c κs = search needs
 
 returns : tie.Need-returns
-returns c =
-    let a = c .before .before .before .before .before .before .before .before .before .before .before .before .before .before .before .args in
+returns c timed early here =
+    let a = c .before .before .before .before .before .before .before .before .before .before .before .before .before .before .args in
     let S = settingOf (a .layout) (now (a .stamps)) in
     let b = c .before .before .before .before .before .before .fast-steps in
     let some = c .before .before .if1 .taken in
-    let q = fast-ran S _ _ _ _ (a .control) _ _ (b .result) (c .before .before .before .before .before .before .before .before .before .before .fast-until .ensures (a .layout)) (c .before .before .before .before .before .before .before .before .is-held .ensures) (b .ensures .0) in
+    let q = fast-ran S _ _ _ _ (a .control) _ _ (b .result) (c .before .before .before .before .before .before .before .before .before .before .fast-until .ensures (a .layout) timed here) (c .before .before .before .before .before .before .before .before .is-held .ensures) (b .ensures .0) in
     sym (ran-one S _ _ _
     (burst-some S (a .control) _ _ (b .result) _ _ q some (now (a .saved)) _ (c .after-fast .ensures .1) _ (c .after-fast .ensures .0))
     some (b .ensures .1))
 
 returns-2 : tie.Need-returns-2
-returns-2 c =
-    let a = c .before .before .before .before .before .before .before .before .before .before .before .before .before .before .before .before .before .before .before .before .before .before .before .before .args in
+returns-2 c timed early here =
+    let a = c .before .before .before .before .before .before .before .before .before .before .before .before .before .before .before .before .before .before .before .before .before .before .before .args in
     let S = settingOf (a .layout) (now (a .stamps)) in
-    let p = c .before .before .before .before .before .before .before .before .before .before .before .before .before .before .before .before .before .before .before .before .before .before .before .before .pre in
-    let early = p .1 in
     let b = c .before .before .before .before .before .before .before .before .before .before .before .before .before .before .before .fast-steps in
     let few = c .before .before .before .before .before .before .before .before .before .before .before .if1 .left in
-    let q = fast-ran S _ _ _ _ (a .control) _ _ (b .result) (c .before .before .before .before .before .before .before .before .before .before .before .before .before .before .before .before .before .before .before .fast-until .ensures (a .layout)) (c .before .before .before .before .before .before .before .before .before .before .before .before .before .before .before .before .before .is-held .ensures) (b .ensures .0) in
+    let q = fast-ran S _ _ _ _ (a .control) _ _ (b .result) (c .before .before .before .before .before .before .before .before .before .before .before .before .before .before .before .before .before .before .before .fast-until .ensures (a .layout) timed here) (c .before .before .before .before .before .before .before .before .before .before .before .before .before .before .before .before .before .is-held .ensures) (b .ensures .0) in
     full-gives S _ _ _ _ _ _ _ _ _ _ (c .before .before .before .before .before .before .before .before .state .ensures)
     (c .before .before .before .before .before .before .take-step .ensures (can-pass-at (ap (λ (z : State). z .time .clock) (c .before .before .before .before .before .before .before .before .state .ensures))
-    (record { timed = p .0; passed = c .before .before .before .before .before .before .before .before .before .before .before .before .before .before .before .before .before .before .before .before .before .find-upcoming .ensures (p .0) .passed; room = omega arith })))
+    (record { timed = timed; passed = here .passed; room = omega arith })))
     (c .put-back .ensures)
     ∙ ap (stepOf S) (burst-none S (a .control) _ _ (b .result) _ _ q (omega arith) (now (a .saved)))
 
@@ -73,7 +68,6 @@ pub one-step-spec : {M : Type 1} → statement M
 one-step-spec =
     tie.close
     (tie.spec
-    find-upcoming-requires
     element-copy-out-fast-until
     fast-until-requires
     is-held-requires

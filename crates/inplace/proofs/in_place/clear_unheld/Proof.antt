@@ -1,9 +1,9 @@
 use mathlib.Core.Path.{sym, _∙_}
 use denote.Ref.{now}
-use Rattle.machine.proofs.InPlaceLaws.{saved-held, saved-unheld}
+use Rattle.inplace.proofs.InPlaceLaws.{saved-held, saved-unheld}
 use borrow.Author.Needs.{needs}
-use Rattle.machine.proofs.in_place.clear_unheld.Statement.{statement}
-use Rattle.machine.proofs.in_place.clear_unheld.Tie as tie
+use Rattle.inplace.proofs.in_place.clear_unheld.Statement.{statement}
+use Rattle.inplace.proofs.in_place.clear_unheld.Tie as tie
 
 is-held-requires : tie.Need-is-held-requires
 is-held-requires c κs = search needs

@@ -24,8 +24,8 @@ use Rattle.fast.specs.declared.steps.FastProgress.{FastProgress}
 use Rattle.fast.specs.Steps.{RanSteps, FastSteps, fastState, savedAfter}
 use Rattle.fast.proofs.FastSteps.{fast-steps-ran}
 use Rattle.interrupt.proofs.Yields.{Yields}
-use Rattle.machine.specs.internal.InPlace.{controlAfter, FastUntil, FastRanSteps}
-use Rattle.machine.proofs.FastRun.{ran-none}
+use Rattle.inplace.specs.internal.InPlace.{controlAfter, FastUntil, FastRanSteps}
+use Rattle.inplace.proofs.RanLaws.{ran-none}
 
 pub saved-held : (v : SavedContext) (saved : List ℕ) → isHeld v ≡ true → savedFor v saved ≡ saved
 saved-held Unheld saved e = absurd (true≢false (sym e))

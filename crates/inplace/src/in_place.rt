@@ -12,11 +12,10 @@ ghost use Rattle.definition.specs.Run.{stepOf};
 ghost use Rattle.definition.specs.Calls.{timetable};
 ghost use Rattle.clock.specs.Upcoming.{IsUpcoming};
 ghost use Rattle.act.specs.Control.{withRegisters};
-ghost use Rattle.machine.specs.internal.InPlace.{controlAfter, FastUntil};
+ghost use Rattle.inplace.specs.internal.InPlace.{controlAfter, FastUntil};
 use act::control::Control;
 use act::registers::zero_registers;
 use alu::status::gie_is_set;
-use clock::time::find_upcoming;
 use clock::time::no_event_until;
 use definition::answer::Outcome;
 use definition::state::SavedContext;
@@ -76,9 +75,7 @@ pub fn put_back(next: State, registers: &mut [u16; 16], saved: &mut [u16; 16]) -
 
 // The clock value up to which fast steps may go: up to it time only goes on and no interrupt is due. 0 where there is none.
 pub fn fast_until(control: Control, status: u16, stamps: &[u64], upcoming: usize) -> u64
-    requires { ⌜ timetable (now stamps) ≡ true ⌝ }
-    requires { ⌜ IsUpcoming (now stamps) (control .time .clock) upcoming ⌝ }
-    ensures { λ r. ⌜ ((L : LAYOUT) → FastUntil (settingOf L (now (stamps .entry))) status control r) ⌝ }
+    ensures { λ r. ⌜ ((L : LAYOUT) → timetable (now (stamps .entry)) ≡ true → IsUpcoming (now (stamps .entry)) (control .time .clock) upcoming → FastUntil (settingOf L (now (stamps .entry))) status control r) ⌝ }
 {
     let time = control.time;
     no_event_until(control.halted, !gie_is_set(status), time, stamps, upcoming)
@@ -92,13 +89,12 @@ pub fn one_step(
     mem: &mut [u8],
     layout: Layout,
     stamps: &[u64],
+    upcoming: usize,
 ) -> InPlaceStep
-    requires { ⌜ (timetable (now stamps) ≡ true) × (control .time .clock ≤ lastClock) ⌝ }
-    ensures { λ r. ⌜ gives (withRegisters (now (registers .exit)) (now (saved .exit)) (r .control)) (now (mem .exit)) (r .outcome) ≡ stepOf (settingOf layout (now (stamps .entry))) (world (withRegisters (now (registers .entry)) (now (saved .entry)) control) (now (mem .entry))) ⌝ }
+    ensures { λ r. ⌜ (timetable (now (stamps .entry)) ≡ true → control .time .clock ≤ lastClock → IsUpcoming (now (stamps .entry)) (control .time .clock) upcoming → gives (withRegisters (now (registers .exit)) (now (saved .exit)) (r .control)) (now (mem .exit)) (r .outcome) ≡ stepOf (settingOf layout (now (stamps .entry))) (world (withRegisters (now (registers .entry)) (now (saved .entry)) control) (now (mem .entry)))) ⌝ }
 {
     let context = control.context;
     let clock = control.time.clock;
-    let upcoming = find_upcoming(stamps, clock);
     let until = fast_until(control, registers[2], stamps, upcoming);
     let burst = fast_steps(
         registers,

@@ -6,19 +6,16 @@ ghost use Rattle.definition.specs.Setting.{settingOf};
 ghost use Rattle.definition.specs.State.{world};
 ghost use Rattle.definition.specs.Calls.{timetable, called, runAnswered};
 ghost use Rattle.act.specs.Control.{withRegisters};
-use crate::answer::Ran;
-use crate::calls::Machine;
-use crate::in_place::after_fast;
-use crate::in_place::fast_until;
-use crate::in_place::put_back;
 use act::control::Control;
 use base::limits::LAST_CLOCK;
 use clock::time::find_upcoming;
 use clock::time::skip_passed;
 use definition::answer::End;
 use definition::answer::RunAnswer;
-use definition::state::State;
 use fast::steps::fast_steps;
+use inplace::in_place::after_fast;
+use inplace::in_place::fast_until;
+use inplace::in_place::put_back;
 use layout::sections::Layout;
 use step::step::is_held;
 use step::step::take_step;
@@ -31,7 +28,7 @@ pub struct InPlaceRun {
 
 // The steps of a run, counted. Where there is a burst of fast steps it is taken, else one step; the index of the upcoming stamp goes along
 // with the clock, and the registers stay where they lie.
-fn run_in_place(
+pub fn run_in_place(
     control: Control,
     registers: &mut [u16; 16],
     saved: &mut [u16; 16],
@@ -40,8 +37,7 @@ fn run_in_place(
     stamps: &[u64],
     budget: u64,
 ) -> InPlaceRun
-    requires { ⌜ timetable (now stamps) ≡ true ⌝ }
-    ensures { λ r. ⌜ called (withRegisters (now (registers .exit)) (now (saved .exit)) (r .control)) (now (mem .exit)) (r .answer) ≡ runAnswered (settingOf layout (now (stamps .entry))) budget (world (withRegisters (now (registers .entry)) (now (saved .entry)) control) (now (mem .entry))) TAKEN ⌝ }
+    ensures { λ r. ⌜ (timetable (now (stamps .entry)) ≡ true → called (withRegisters (now (registers .exit)) (now (saved .exit)) (r .control)) (now (mem .exit)) (r .answer) ≡ runAnswered (settingOf layout (now (stamps .entry))) budget (world (withRegisters (now (registers .entry)) (now (saved .entry)) control) (now (mem .entry))) TAKEN) ⌝ }
 {
     let mut current = control;
     let mut upcoming = find_upcoming(stamps, control.time.clock);
@@ -84,30 +80,5 @@ fn run_in_place(
     InPlaceRun {
         control: current,
         answer: RunAnswer::Done(end, steps),
-    }
-}
-
-// The steps of a run.
-pub fn run_steps(m: State, mem: &mut [u8], layout: Layout, stamps: &[u64], budget: u64) -> Ran
-    requires { ⌜ timetable (now stamps) ≡ true ⌝ }
-    ensures { λ r. ⌜ called (r .machine .0) (now (mem .exit)) (r .answer) ≡ runAnswered (settingOf layout (now (stamps .entry))) budget (world m (now (mem .entry))) TAKEN ⌝ }
-{
-    let mut registers = m.registers;
-    let mut saved = m.saved;
-    let control = Control::of(m);
-    let done = run_in_place(
-        control,
-        &mut registers,
-        &mut saved,
-        mem,
-        layout,
-        stamps,
-        budget,
-    );
-    let last = done.control;
-    let answer = done.answer;
-    Ran {
-        machine: Machine(last.state(registers, saved)),
-        answer: answer,
     }
 }

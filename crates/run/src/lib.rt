@@ -1,0 +1,2 @@
+// Many steps of a machine whose registers are lent.
+pub mod run;
