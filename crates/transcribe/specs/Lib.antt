@@ -1,0 +1,2 @@
+pub mod Transcribe
+pub mod internal
