@@ -76,3 +76,7 @@ pub use register::Register;
 pub use sheet::{Setup, SheetRefusal};
 pub use status::Status;
 pub use timetable::{Timetable, LAST_CLOCK, MOST_STAMPS};
+
+/// The version of this crate and of `include/enclave.h`, which are one; `CHANGELOG.md` says what each
+/// brought.
+pub const VERSION: &str = env!("CARGO_PKG_VERSION");
