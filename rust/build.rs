@@ -21,7 +21,8 @@ fn main() {
 
 // Where `rt staticlib embed` writes the library.
 fn own_folder() -> PathBuf {
-    Path::new(env!("CARGO_MANIFEST_DIR")).join("../target/staticlib")
+    let here = env::var_os("CARGO_MANIFEST_DIR").expect("set by cargo");
+    PathBuf::from(here).join("../target/staticlib")
 }
 
 // What is wrong where the library is missing, and what to do.
