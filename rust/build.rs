@@ -1,5 +1,5 @@
 //! Links the static library that `rt staticlib embed` writes. `ENCLAVE_LIB_DIR` names the folder that
-//! holds it, where that is not `target/staticlib` of this repository.
+//! holds it by its whole path, where that is not `target/staticlib` of this repository.
 
 use std::env;
 use std::path::{Path, PathBuf};

@@ -23,8 +23,8 @@
 //! while it asks; start, step and run allocate nothing.
 //!
 //! The static library is looked for in `target/staticlib` of the repository, where `rt staticlib
-//! embed` writes it, or in the folder that the environment variable `ENCLAVE_LIB_DIR` names while
-//! this crate is built.
+//! embed` writes it, or in the folder that the environment variable `ENCLAVE_LIB_DIR` names, by its
+//! whole path, while this crate is built.
 //!
 //! ```
 //! use enclave::{Budget, End, Layout, Machine, Memory, Timetable};
