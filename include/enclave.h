@@ -16,6 +16,12 @@
 #include <stddef.h>
 #include <stdint.h>
 
+/* The version of this header and of the Rust crate beside it; CHANGELOG.md says what each brought. */
+#define ENCLAVE_VERSION "0.2.0"
+#define ENCLAVE_VERSION_MAJOR 0
+#define ENCLAVE_VERSION_MINOR 2
+#define ENCLAVE_VERSION_PATCH 0
+
 #ifdef __cplusplus
 extern "C" {
 #endif

@@ -13,6 +13,10 @@ fn main() -> io::Result<()> {
 }
 
 /// Writes the transcript of a sheet: a header, a line for each step, and why the steps stopped.
+///
+/// # Errors
+///
+/// What writing answers.
 pub fn write_transcript(sheet: &[u8], out: &mut impl Write) -> io::Result<()> {
     match Setup::read(sheet) {
         Ok(setup) => write_steps(setup, out),

@@ -27,6 +27,11 @@ impl Rights {
 
 impl Layout {
     /// What an instruction at `from` may do to the byte at `address`.
+    ///
+    /// # Panics
+    ///
+    /// Never, where the library is the one that this version is for.
+    #[must_use]
     pub fn access(self, from: u16, address: u16) -> Rights {
         ask(&self.addresses, from, address).expect("the layout was taken by the library")
     }

@@ -13,7 +13,11 @@ impl Budget {
     /// 1,000,000 steps.
     pub const MOST: Budget = Budget(1_000_000);
 
-    /// The budget of so many steps, or refusal *distance*.
+    /// The budget of so many steps.
+    ///
+    /// # Errors
+    ///
+    /// Refusal *distance* above 1,000,000.
     pub const fn new(steps: u64) -> Result<Budget, Refusal> {
         if steps <= Budget::MOST.0 {
             Ok(Budget(steps))
@@ -23,6 +27,7 @@ impl Budget {
     }
 
     /// Its number of steps.
+    #[must_use]
     pub const fn steps(self) -> u64 {
         self.0
     }

@@ -29,6 +29,11 @@ pub enum Operand {
 
 /// An instruction with its source and then its destination. Some combinations have no words, as MOV
 /// of a register to pc; writing refuses those.
+///
+/// As text it is in the notation of document 01's table of instruction words, where s and d are the
+/// register digits of the words and w is four hexadecimal digits: `JMP &5`, `MOV 5 6`, `MOV @5 6`,
+/// `MOV 5 0(6)`, `MOV #1234 6`, `NOT A`. The table leaves the operands of IN, OUT, ADD, SUB, CMP and
+/// AND out; they follow here in the same way: `IN 5`, `OUT 5`, `ADD 5 6`.
 #[derive(Clone, Copy, Debug, PartialEq, Eq, Hash)]
 pub enum Instruction {
     /// HLT.
@@ -76,15 +81,23 @@ impl Words {
 }
 
 impl Instruction {
-    /// The instruction that two words begin with and its length in words, or refusal *word*. A
-    /// second word beyond that length isn't looked at.
+    /// The instruction that two words begin with and its length in words. A second word beyond that
+    /// length isn't looked at.
+    ///
+    /// # Errors
+    ///
+    /// Refusal *word* where the words begin no instruction.
     pub fn read(first: u16, second: u16) -> Result<(Instruction, usize), Refusal> {
         let (mut fields, mut length) = ([0; 4], 0);
         Refusal::taken(raw::read(first, second, &mut fields, &mut length))?;
         Ok((Instruction::decoded(fields), usize::from(length)))
     }
 
-    /// Exactly the instruction's words, or refusal *word* where it has none.
+    /// Exactly the instruction's words.
+    ///
+    /// # Errors
+    ///
+    /// Refusal *word* where it has none.
     pub fn write(self) -> Result<Words, Refusal> {
         let (mut first, mut second, mut length) = (0, 0, 0);
         let fields = self.encoded();

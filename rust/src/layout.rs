@@ -14,8 +14,11 @@ pub struct Layout {
 }
 
 impl Layout {
-    /// The layout of a code section, a data section and a service address, or refusal *fence*. The
-    /// library decides.
+    /// The layout of a code section, a data section and a service address. The library decides.
+    ///
+    /// # Errors
+    ///
+    /// Refusal *fence* where a rule is broken.
     pub fn new(code: Range<u16>, data: Range<u16>, service: u16) -> Result<Layout, Refusal> {
         let addresses = [code.start, code.end, data.start, data.end, service];
         ask(&addresses, 0, 0)?;
@@ -23,21 +26,25 @@ impl Layout {
     }
 
     /// The code section of the enclave module.
+    #[must_use]
     pub fn code(self) -> Range<u16> {
         self.addresses[0]..self.addresses[1]
     }
 
     /// The data section of the enclave module.
+    #[must_use]
     pub fn data(self) -> Range<u16> {
         self.addresses[2]..self.addresses[3]
     }
 
     /// The address of the interrupt service routine.
+    #[must_use]
     pub fn service(self) -> u16 {
         self.addresses[4]
     }
 
     /// The entry of the enclave module, which is code start.
+    #[must_use]
     pub fn entry(self) -> u16 {
         self.addresses[0]
     }

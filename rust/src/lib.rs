@@ -19,7 +19,12 @@
 //! There is no global state: a call works on what it is lent and on nothing else, so the types are
 //! `Send` and `Sync` by construction, and threads may run different machines at the same time. The
 //! library allocates nothing. In this crate only [`Memory`], [`Timetable`], [`Setup`] and
-//! [`raw::Places`] own memory from the heap; start, step and run allocate nothing.
+//! [`raw::Places`] own memory from the heap, and [`Machine::from_fields`] takes a memory from there
+//! while it asks; start, step and run allocate nothing.
+//!
+//! The static library is looked for in `target/staticlib` of the repository, where `rt staticlib
+//! embed` writes it, or in the folder that the environment variable `ENCLAVE_LIB_DIR` names, by its
+//! whole path, while this crate is built.
 //!
 //! ```
 //! use enclave::{Budget, End, Layout, Machine, Memory, Timetable};
@@ -40,6 +45,7 @@
 
 mod access;
 mod budget;
+mod cycles;
 mod encoding;
 mod ffi;
 mod fields;
@@ -47,6 +53,7 @@ mod instruction;
 mod layout;
 mod machine;
 mod memory;
+mod notation;
 mod outcome;
 pub mod raw;
 mod refusal;
@@ -69,3 +76,7 @@ pub use register::Register;
 pub use sheet::{Setup, SheetRefusal};
 pub use status::Status;
 pub use timetable::{Timetable, LAST_CLOCK, MOST_STAMPS};
+
+/// The version of this crate and of `include/enclave.h`, which are one; `CHANGELOG.md` says what each
+/// brought.
+pub const VERSION: &str = env!("CARGO_PKG_VERSION");

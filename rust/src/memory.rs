@@ -13,14 +13,27 @@ pub const MEMORY_SIZE: usize = 65536;
 #[derive(Clone, PartialEq, Eq)]
 pub struct Memory(Box<[u8; MEMORY_SIZE]>);
 
+// Zeros on the heap, made there.
+#[expect(
+    clippy::unnecessary_box_returns,
+    reason = "they are too many for the stack"
+)]
+pub(crate) fn zeros<T: Clone + Default, const N: usize>() -> Box<[T; N]> {
+    let Ok(zeros) = vec![T::default(); N].into_boxed_slice().try_into() else {
+        unreachable!("a vector of N has N")
+    };
+    zeros
+}
+
 impl Memory {
     /// A memory of zeros.
+    #[must_use]
     pub fn zeroed() -> Memory {
-        let bytes = vec![0; MEMORY_SIZE].into_boxed_slice();
-        Memory(bytes.try_into().expect("65,536 bytes"))
+        Memory(zeros())
     }
 
     /// The word at an address, low byte first; address bit 0 is dropped.
+    #[must_use]
     pub fn word(&self, address: u16) -> u16 {
         let low = usize::from(address & !1);
         u16::from_le_bytes([self.0[low], self.0[low + 1]])

@@ -2,7 +2,7 @@
 
 use std::fmt;
 
-/// Why a step was a reset: the first of these that held.
+/// Why a step was a reset: the first of these that held. As text it is a short sentence.
 #[derive(Clone, Copy, Debug, PartialEq, Eq, PartialOrd, Ord, Hash)]
 #[repr(u8)]
 pub enum Cause {
@@ -38,13 +38,37 @@ impl Cause {
     ];
 
     /// Its number, 1 to 8.
+    #[must_use]
     pub const fn number(self) -> u8 {
         self as u8
     }
 
     /// The cause of a number.
+    #[must_use]
     pub fn from_number(number: u8) -> Option<Cause> {
         Cause::ALL.into_iter().find(|c| c.number() == number)
+    }
+
+    // What happened, in document 01's words.
+    const fn sentence(self) -> &'static str {
+        match self {
+            Cause::Execute => "pc may not be executed from the previous instruction's address",
+            Cause::Reentry => "pc is inside while a visit is held",
+            Cause::FirstWord => "the first word does not begin an instruction",
+            Cause::SecondSide => {
+                "the second word is not on the first word's side, inside or outside"
+            }
+            Cause::SecondWord => "the second word is wrong",
+            Cause::Inside => "HLT, IN or OUT is barred inside",
+            Cause::Read => "a read is barred",
+            Cause::Write => "a write is barred",
+        }
+    }
+}
+
+impl fmt::Display for Cause {
+    fn fmt(&self, f: &mut fmt::Formatter<'_>) -> fmt::Result {
+        f.write_str(self.sentence())
     }
 }
 
@@ -69,6 +93,7 @@ pub enum Kind {
 
 impl Kind {
     /// Its letter on a bench transcript.
+    #[must_use]
     pub const fn letter(self) -> char {
         match self {
             Kind::Ran => 'R',
@@ -115,6 +140,7 @@ pub enum End {
 
 impl End {
     /// Its letter on a bench transcript.
+    #[must_use]
     pub const fn letter(self) -> char {
         match self {
             End::Halted => 'H',

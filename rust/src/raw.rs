@@ -4,6 +4,7 @@
 //! `include/enclave.h` for what the numbers mean.
 
 use crate::ffi;
+use crate::memory::zeros;
 use crate::{MEMORY_SIZE, MOST_STAMPS};
 
 /// The five addresses of a layout: code start and end, data start and end, service address.
@@ -30,10 +31,10 @@ impl Numbers {
         // SAFETY: as above.
         unsafe {
             ffi::enclave_start(
-                &mut self.registers,
-                &mut self.saved,
-                &mut self.control,
-                &mut self.time,
+                &raw mut self.registers,
+                &raw mut self.saved,
+                &raw mut self.control,
+                &raw mut self.time,
                 memory.as_ptr(),
                 memory.len(),
             )
@@ -52,10 +53,10 @@ impl Numbers {
         // SAFETY: as above.
         unsafe {
             ffi::enclave_step(
-                &mut self.registers,
-                &mut self.saved,
-                &mut self.control,
-                &mut self.time,
+                &raw mut self.registers,
+                &raw mut self.saved,
+                &raw mut self.control,
+                &raw mut self.time,
                 memory.as_mut_ptr(),
                 memory.len(),
                 layout,
@@ -80,10 +81,10 @@ impl Numbers {
         // SAFETY: as above.
         unsafe {
             ffi::enclave_run(
-                &mut self.registers,
-                &mut self.saved,
-                &mut self.control,
-                &mut self.time,
+                &raw mut self.registers,
+                &raw mut self.saved,
+                &raw mut self.control,
+                &raw mut self.time,
                 memory.as_mut_ptr(),
                 memory.len(),
                 layout,
@@ -134,12 +135,11 @@ pub struct Places {
 
 impl Places {
     /// Places with 0 in each.
+    #[must_use]
     pub fn zeroed() -> Places {
-        let memory = vec![0; MEMORY_SIZE].into_boxed_slice();
-        let stamps = vec![0; MOST_STAMPS].into_boxed_slice();
         Places {
-            memory: memory.try_into().expect("65,536 bytes"),
-            stamps: stamps.try_into().expect("4,096 places"),
+            memory: zeros(),
+            stamps: zeros(),
             layout: [0; 5],
             count: 0,
             budget: 0,
@@ -153,11 +153,11 @@ impl Places {
             ffi::enclave_read_sheet(
                 sheet.as_ptr(),
                 sheet.len(),
-                &mut *self.memory,
-                &mut *self.stamps,
-                &mut self.layout,
-                &mut self.count,
-                &mut self.budget,
+                &raw mut *self.memory,
+                &raw mut *self.stamps,
+                &raw mut self.layout,
+                &raw mut self.count,
+                &raw mut self.budget,
                 line,
             )
         }

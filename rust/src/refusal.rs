@@ -3,7 +3,8 @@
 use std::error::Error;
 use std::fmt;
 
-/// Why a call is refused. A refused call leaves machine and memory as they were.
+/// Why a call is refused. A refused call leaves machine and memory as they were. As text it is a
+/// sentence that says what is wrong and what to do; [`word`](Refusal::word) is the one word for it.
 #[derive(Clone, Copy, Debug, PartialEq, Eq, PartialOrd, Ord, Hash)]
 #[repr(u8)]
 pub enum Refusal {
@@ -43,16 +44,19 @@ impl Refusal {
     ];
 
     /// Its number, 1 to 9.
+    #[must_use]
     pub const fn number(self) -> u8 {
         self as u8
     }
 
     /// The refusal of a number.
+    #[must_use]
     pub fn from_number(number: u8) -> Option<Refusal> {
         Refusal::ALL.into_iter().find(|r| r.number() == number)
     }
 
-    /// Its word.
+    /// Its word in document 01.
+    #[must_use]
     pub const fn word(self) -> &'static str {
         match self {
             Refusal::Map => "map",
@@ -67,6 +71,39 @@ impl Refusal {
         }
     }
 
+    // What is wrong, and what to do.
+    const fn sentence(self) -> &'static str {
+        match self {
+            Refusal::Map => "memory is not 65,536 bytes: lend the whole memory",
+            Refusal::Fence => {
+                "a rule of the layout is broken: make all five addresses even, each start lower \
+                 than its end, code and data apart, and the service address outside of both"
+            }
+            Refusal::Timetable => {
+                "the stamps are more than 4,096, not rising, or not 1 to 2^62: sort them and drop \
+                 doubles"
+            }
+            Refusal::Frame => {
+                "no machine of this layout can be in this state: go on from a state that a call \
+                 handed back"
+            }
+            Refusal::Distance => "the budget is above 1,000,000: run more than once",
+            Refusal::Clock => "the clock is above 2^62: start anew",
+            Refusal::Line => {
+                "this line cannot be read: L comes first and G last, fields are parted by one tab, \
+                 each line ends with a newline, addresses and words are four hexadecimal digits in \
+                 capitals, an M address is even, decimals have at most 19 digits and no leading zero"
+            }
+            Refusal::Sheet => {
+                "the sheet has more than 32,768 bytes: shorten it; memory that no line names is 0"
+            }
+            Refusal::Word => {
+                "there is no such instruction: take its words or its registers from the table of \
+                 instruction words"
+            }
+        }
+    }
+
     // What a function of the library answered: 0, or a refusal's number.
     pub(crate) fn taken(answer: u8) -> Result<(), Refusal> {
         match answer {
@@ -78,7 +115,7 @@ impl Refusal {
 
 impl fmt::Display for Refusal {
     fn fmt(&self, f: &mut fmt::Formatter<'_>) -> fmt::Result {
-        f.write_str(self.word())
+        f.write_str(self.sentence())
     }
 }
 

@@ -2,7 +2,7 @@
 
 use std::fmt;
 
-/// The number of a register, 0 to 15.
+/// The number of a register, 0 to 15. As text it is r0 to r15, as document 01 writes it.
 #[derive(Clone, Copy, PartialEq, Eq, PartialOrd, Ord, Hash)]
 pub struct Register(u8);
 
@@ -17,6 +17,7 @@ impl Register {
     pub const ZERO: Register = Register(3);
 
     /// The register of a number, if it is one of 0 to 15.
+    #[must_use]
     pub const fn new(number: u8) -> Option<Register> {
         if number < 16 {
             Some(Register(number))
@@ -26,13 +27,20 @@ impl Register {
     }
 
     /// Its number.
+    #[must_use]
     pub const fn number(self) -> u8 {
         self.0
     }
 }
 
-impl fmt::Debug for Register {
+impl fmt::Display for Register {
     fn fmt(&self, f: &mut fmt::Formatter<'_>) -> fmt::Result {
         write!(f, "r{}", self.0)
+    }
+}
+
+impl fmt::Debug for Register {
+    fn fmt(&self, f: &mut fmt::Formatter<'_>) -> fmt::Result {
+        fmt::Display::fmt(self, f)
     }
 }

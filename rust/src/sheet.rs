@@ -19,7 +19,7 @@ pub struct Setup {
     pub budget: Budget,
 }
 
-/// Why a sheet is refused, and for which line.
+/// Why a sheet is refused, and for which line. As text it begins with that line: `line 13: ...`.
 #[derive(Clone, Copy, Debug, PartialEq, Eq, Hash)]
 pub struct SheetRefusal {
     /// The refusal: fence, timetable, distance, line or sheet.
@@ -29,7 +29,16 @@ pub struct SheetRefusal {
 }
 
 impl Setup {
-    /// What a sheet sets up, or the refusal of its first bad line.
+    /// What a sheet sets up.
+    ///
+    /// # Errors
+    ///
+    /// The refusal of its first bad line: *line*, or *fence*, *timetable* or *distance* where the line
+    /// can be read. *sheet*, with line 0, comes before all.
+    ///
+    /// # Panics
+    ///
+    /// Never, where the library is the one that this version is for.
     pub fn read(sheet: &[u8]) -> Result<Setup, SheetRefusal> {
         let (mut places, mut line) = (Places::zeroed(), 0);
         Refusal::taken(places.read(sheet, &mut line))
@@ -47,6 +56,7 @@ impl Setup {
     }
 
     /// The machine of this setup at its start.
+    #[must_use]
     pub fn start(&self) -> Machine {
         Machine::start(self.layout, &self.memory)
     }
@@ -54,7 +64,10 @@ impl Setup {
 
 impl fmt::Display for SheetRefusal {
     fn fmt(&self, f: &mut fmt::Formatter<'_>) -> fmt::Result {
-        write!(f, "{} (line {})", self.refusal, self.line)
+        match self.line {
+            0 => self.refusal.fmt(f),
+            line => write!(f, "line {line}: {}", self.refusal),
+        }
     }
 }
 

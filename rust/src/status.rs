@@ -13,31 +13,37 @@ impl Status {
     }
 
     /// The whole word.
+    #[must_use]
     pub const fn bits(self) -> u16 {
         self.0
     }
 
     /// C, bit 0: the result was not zero.
+    #[must_use]
     pub const fn carry(self) -> bool {
         self.0 & 1 != 0
     }
 
     /// Z, bit 1: the result was zero.
+    #[must_use]
     pub const fn zero(self) -> bool {
         self.0 & 2 != 0
     }
 
     /// N, bit 2: bit 15 of the result.
+    #[must_use]
     pub const fn negative(self) -> bool {
         self.0 & 4 != 0
     }
 
     /// GIE, bit 3: interrupts are allowed.
+    #[must_use]
     pub const fn interrupts_allowed(self) -> bool {
         self.0 & 8 != 0
     }
 
     /// V, bit 8: signed overflow.
+    #[must_use]
     pub const fn overflow(self) -> bool {
         self.0 & 0x100 != 0
     }

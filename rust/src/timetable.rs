@@ -18,7 +18,11 @@ pub struct Timetable<'a> {
 }
 
 impl<'a> Timetable<'a> {
-    /// The timetable of these stamps, or refusal *timetable*.
+    /// The timetable of these stamps.
+    ///
+    /// # Errors
+    ///
+    /// Refusal *timetable* where they are more than 4,096, not strictly rising, or not 1 to 2^62.
     pub fn new(stamps: impl Into<Cow<'a, [u64]>>) -> Result<Timetable<'a>, Refusal> {
         let stamps = stamps.into();
         let few = stamps.len() <= MOST_STAMPS;
@@ -32,6 +36,7 @@ impl<'a> Timetable<'a> {
     }
 
     /// The timetable with no request.
+    #[must_use]
     pub const fn empty() -> Timetable<'a> {
         Timetable {
             stamps: Cow::Borrowed(&[]),
@@ -39,6 +44,7 @@ impl<'a> Timetable<'a> {
     }
 
     /// Its stamps.
+    #[must_use]
     pub fn stamps(&self) -> &[u64] {
         &self.stamps
     }

@@ -1,10 +1,11 @@
-//! Start, step and run allocate nothing, with an array for memory and a borrowed timetable.
+//! Start, step and run allocate nothing, with an array for memory and a borrowed timetable; to restore
+//! a machine a memory is taken from the heap, once.
 
 use std::alloc::{GlobalAlloc, Layout as Block, System};
 use std::cell::Cell;
 use std::hint::black_box;
 
-use enclave::{Budget, Layout, Machine, Timetable, MEMORY_SIZE};
+use enclave::{Budget, Layout, Machine, Memory, Timetable, MEMORY_SIZE};
 
 thread_local! {
     static ALLOCATIONS: Cell<usize> = const { Cell::new(0) };
@@ -28,7 +29,22 @@ unsafe impl GlobalAlloc for Counting {
 #[global_allocator]
 static COUNTING: Counting = Counting;
 
-// Starts, restores, steps and runs a machine of NOPs.
+// How many allocations this makes.
+fn allocations<T>(work: impl FnOnce() -> T) -> usize {
+    let before = ALLOCATIONS.with(Cell::get);
+    black_box(work());
+    ALLOCATIONS.with(Cell::get) - before
+}
+
+fn layout() -> Layout {
+    Layout::new(0x8000..0x8008, 0x8100..0x8104, 0x4500).unwrap()
+}
+
+// Starts, steps and runs a machine of NOPs.
+#[expect(
+    clippy::large_stack_arrays,
+    reason = "nothing is to come from the heap"
+)]
 fn work() {
     let mut memory = [0; MEMORY_SIZE];
     for word in memory.chunks_exact_mut(2) {
@@ -36,9 +52,7 @@ fn work() {
     }
     let stamps = [6, 20, 40];
     let timetable = Timetable::new(&stamps).unwrap();
-    let layout = Layout::new(0x8000..0x8008, 0x8100..0x8104, 0x4500).unwrap();
-    let started = Machine::start(layout, &memory);
-    let mut machine = Machine::from_fields(layout, &started.fields()).unwrap();
+    let mut machine = Machine::start(layout(), &memory);
     machine.step(&mut memory, &timetable).unwrap();
     let budget = Budget::new(1000).unwrap();
     machine.run(&mut memory, &timetable, budget).unwrap();
@@ -46,12 +60,13 @@ fn work() {
 
 #[test]
 fn calls_allocate_nothing() {
-    let before = ALLOCATIONS.with(Cell::get);
-    work();
-    assert_eq!(ALLOCATIONS.with(Cell::get), before);
-    black_box(vec![0u8; 8]);
-    assert!(
-        ALLOCATIONS.with(Cell::get) > before,
-        "allocations are counted"
-    );
+    assert_eq!(allocations(work), 0);
+    assert_eq!(allocations(|| vec![0u8; 8]), 1, "allocations are counted");
+}
+
+#[test]
+fn restoring_allocates_a_memory() {
+    let fields = Machine::start(layout(), &Memory::zeroed()).fields();
+    let restored = || Machine::from_fields(layout(), &fields);
+    assert_eq!(allocations(restored), 1);
 }

@@ -3,6 +3,7 @@
 mod support;
 
 use std::num::NonZeroU64;
+use std::thread;
 
 use enclave::{Layout, Machine, MachineFields, Refusal, SavedContext};
 use support::raw::Lent;
@@ -59,6 +60,14 @@ fn restored_machine_goes_on_alike() {
     );
     assert_eq!(ends.0, ends.1);
     assert_eq!((machine, setup.memory), (restored, memory));
+}
+
+#[test]
+fn machine_is_restored_on_a_small_stack() {
+    let fields = held_fields();
+    let small = thread::Builder::new().stack_size(48 * 1024);
+    let restored = small.spawn(move || Machine::from_fields(paper_layout(), &fields).is_ok());
+    assert!(restored.unwrap().join().unwrap());
 }
 
 #[test]

@@ -114,13 +114,14 @@ fn refusals_come_in_number_order() {
 
 // A sheet is refused by this number for this line, and nothing but the line is written.
 fn sheet_refused(sheet: &[u8], number: u8, line: u64) {
-    let marks = Places {
-        memory: Box::new([0xAA; 65536]),
-        stamps: Box::new([0xAA; 4096]),
+    let mut marks = Places {
         layout: [0xAA; 5],
         count: 0xAA,
         budget: 0xAA,
+        ..Places::zeroed()
     };
+    marks.memory.fill(0xAA);
+    marks.stamps.fill(0xAA);
     let (mut places, mut told) = (marks.clone(), 0xAA);
     assert_eq!((places.read(sheet, &mut told), told), (number, line));
     assert!(places == marks);
@@ -136,7 +137,7 @@ fn refusals_of_a_sheet() {
     sheet_refused(format!("{L}G\t20\nG\t20\n").as_bytes(), 7, 3);
     sheet_refused(L.as_bytes(), 7, 2);
     sheet_refused(b"", 7, 1);
-    sheet_refused(&[b'L'; 32769], 8, 0);
+    sheet_refused(&vec![b'L'; 32769], 8, 0);
 }
 
 #[test]
@@ -164,7 +165,7 @@ fn refusal_9_word() {
 
 #[test]
 fn numbers_and_words() {
-    let words = Refusal::ALL.map(|r| r.to_string()).join(" ");
+    let words = Refusal::ALL.map(Refusal::word).join(" ");
     assert_eq!(
         words,
         "map fence timetable frame distance clock line sheet word"

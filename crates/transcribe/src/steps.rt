@@ -41,7 +41,7 @@ pub struct StepsWritten {
 }
 
 // Whether a run goes on: the ends in their order.
-fn course(halted: bool, clock: u64, steps: u64, budget: u64) -> Course
+fn course_of(halted: bool, clock: u64, steps: u64, budget: u64) -> Course
     ensures { λ r. ⌜ r ≡ course halted clock steps budget ⌝ }
 {
     if halted {
