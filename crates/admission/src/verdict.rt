@@ -5,7 +5,7 @@ ghost use Rattle.base.specs.Limits.{lastClock, mostBudget};
 ghost use Rattle.base.specs.Verdict.{verdict};
 ghost use Rattle.definition.specs.Setting.{settingOf};
 ghost use Rattle.definition.specs.State.{world};
-ghost use Rattle.definition.specs.Calls.{wholeMemory, testsFound, budgetTests, stepTests, runTests};
+ghost use Rattle.definition.specs.Calls.{wholeMemory, testsFound, budgetTests, transcriptTests, stepTests, runTests};
 ghost use Rattle.act.specs.Control.{withRegisters};
 use crate::frame::is_framed;
 use crate::frame::state_is_framed;
@@ -83,6 +83,26 @@ pub fn judge_run(m: State, mem: &[u8], layout: Layout, stamps: &[u64], budget: u
         state_is_framed(m, layout),
         budget_allowed(budget),
         clock_allowed(m.time.clock),
+    )
+}
+
+// The first test of a run's transcript that fails: any clock is taken.
+pub fn judge_transcript(
+    m: State,
+    mem: &[u8],
+    layout: Layout,
+    stamps: &[u64],
+    budget: u64,
+) -> Verdict
+    ensures { λ r. ⌜ r ≡ verdict (transcriptTests (settingOf layout (now (stamps .entry))) budget (world m (now (mem .entry)))) ⌝ }
+{
+    first_refusal(
+        memory_is_whole(mem),
+        layout.accepted(),
+        is_timetable(stamps),
+        state_is_framed(m, layout),
+        budget_allowed(budget),
+        true,
     )
 }
 

@@ -61,6 +61,12 @@ module _ (S : Setting) where
   abbrev pub runTests : ℕ → World → List (Test Refusal)
   runTests budget w = callTests w (budgetTests (leb budget mostBudget))
 
+  -- a run's transcript: those of run without the clock's, since a run that ends by the clock still has its last line to come
+  abbrev pub transcriptTests : ℕ → World → List (Test Refusal)
+  transcriptTests budget w =
+      testsFound (wholeMemory (w .memory)) (accepted (S .layout)) (timetable (S .stamps)) (framed S (w .state))
+      (budgetTests (leb budget mostBudget)) true
+
   -- step: those of run without the budget's
   abbrev pub stepTests : World → List (Test Refusal)
   stepTests w = callTests w []

@@ -1,2 +1,4 @@
 pub mod Transcribe
+pub mod Output
+pub mod Promise
 pub mod internal

@@ -1,3 +1,4 @@
 // A run's transcript, written part by part into a lent buffer.
+mod page;
 pub mod progress;
 mod steps;

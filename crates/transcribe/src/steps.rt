@@ -11,6 +11,8 @@ ghost use Rattle.act.specs.Control.{withRegisters};
 ghost use Rattle.transcript.specs.Transcript.{stepLine, endLine};
 ghost use Rattle.transcribe.specs.Transcribe.{lineRoom, pageFrom};
 ghost use Rattle.transcribe.specs.internal.Course.{course};
+ghost use Rattle.transcribe.specs.internal.Written.{PageWritten, LastLine};
+ghost use Rattle.base.specs.Limits.{mostBudget};
 use crate::progress::Remaining;
 use act::control::Control;
 use base::limits::LAST_CLOCK;
@@ -57,7 +59,15 @@ fn course_of(halted: bool, clock: u64, steps: u64, budget: u64) -> Course
 }
 
 // Puts a step's line behind what is filled.
-fn put_step(out: &mut [u8], filled: usize, n: u64, kind: Outcome, clock: u64, pc: u16, sr: u16) -> usize
+fn put_step(
+    out: &mut [u8],
+    filled: usize,
+    n: u64,
+    kind: Outcome,
+    clock: u64,
+    pc: u16,
+    sr: u16,
+) -> usize
     requires { ⌜ filled + lineRoom ≤ length (now out) ⌝ }
     ensures { λ r. ⌜ (r ≡ filled + length (stepLine n kind clock pc sr)) × ((r ≤ length (now (out .entry))) × (now (out .exit) ≡ sets (now (out .entry)) filled (stepLine n kind clock pc sr))) ⌝ }
 {
@@ -74,4 +84,81 @@ fn put_end(out: &mut [u8], filled: usize, end: End, steps: u64, clock: u64) -> u
     let last = out.len();
     let k = end_line(&mut out[filled..last], end, steps, clock);
     filled + k
+}
+
+// The end's line, where a run stops.
+fn last_line(
+    control: Control,
+    steps: u64,
+    out: &mut [u8],
+    filled: usize,
+    going: Course,
+) -> StepsWritten
+    requires { ⌜ filled + lineRoom ≤ length (now out) ⌝ }
+    ensures { λ r. ⌜ LastLine going control steps (now (out .entry)) (now (out .exit)) filled r ⌝ }
+{
+    match going {
+        Course::Goes => StepsWritten {
+            control: control,
+            steps: steps,
+            filled: filled,
+            remaining: Remaining::Steps,
+        },
+        Course::Stops(end) => StepsWritten {
+            control: control,
+            steps: steps,
+            filled: put_end(out, filled, end, steps, control.time.clock),
+            remaining: Remaining::Nothing,
+        },
+    }
+}
+
+// The lines of a run, from where it stands, behind what is filled. The index of the upcoming stamp goes along with the clock.
+pub fn write_steps(
+    control: Control,
+    registers: &mut [u16; 16],
+    saved: &mut [u16; 16],
+    mem: &mut [u8],
+    layout: Layout,
+    stamps: &[u64],
+    made: u64,
+    budget: u64,
+    out: &mut [u8],
+    start: usize,
+) -> StepsWritten
+    requires { ⌜ (timetable (now stamps) ≡ true) × ((start ≤ length (now out)) × (budget ≤ mostBudget)) ⌝ }
+    ensures { λ r. ⌜ PageWritten (pageFrom (settingOf layout (now (stamps .entry))) (length (now (out .entry)) - start) made (budget - made) (world (withRegisters (now (registers .entry)) (now (saved .entry)) control) (now (mem .entry)))) (now (out .entry)) (now (out .exit)) start (r .filled) (r .steps) (world (withRegisters (now (registers .exit)) (now (saved .exit)) (r .control)) (now (mem .exit))) (r .remaining) ⌝ }
+{
+    let mut current = control;
+    let mut upcoming = find_upcoming(stamps, control.time.clock);
+    let mut steps = made;
+    let mut filled = start;
+    while LINE_ROOM <= out.len() - filled {
+        let going = course_of(current.halted, current.time.clock, steps, budget);
+        let Course::Goes = going else {
+            return last_line(current, steps, out, filled, going);
+        };
+        let done = one_step(current, registers, saved, mem, layout, stamps, upcoming);
+        let next = done.control;
+        let kind = done.outcome;
+        steps += 1;
+        let further = put_step(
+            out,
+            filled,
+            steps,
+            kind,
+            next.time.clock,
+            registers[0],
+            registers[2],
+        );
+        current = next;
+        filled = further;
+        upcoming = skip_passed(stamps, upcoming, current.time.clock);
+    }
+    StepsWritten {
+        control: current,
+        steps: steps,
+        filled: filled,
+        remaining: Remaining::Steps,
+    }
 }

@@ -1,23 +1,19 @@
+use mathlib.Core.Path.{sym}
+use Rattle.transcribe.proofs.CourseLaws.{course-halted, course-clock, course-spent, course-goes}
 use Rattle.transcribe.proofs.steps.course_of.Statement.{statement}
 use Rattle.transcribe.proofs.steps.course_of.Tie as tie
-use Rattle.transcribe.proofs.steps.course_of.Reads as reads
-use Rattle.transcribe.proofs.steps.course_of.Lts as lts
 
--- src/steps.rt:48:9
 returns : tie.Need-returns
-returns c = ?
+returns c = sym (course-halted _ _ _ _ (c .if1 .taken))
 
--- src/steps.rt:51:9
 returns-2 : tie.Need-returns-2
-returns-2 c = ?
+returns-2 c = sym (course-clock _ _ _ _ (c .before .if1 .left) (c .if2 .taken))
 
--- src/steps.rt:54:9
 returns-3 : tie.Need-returns-3
-returns-3 c = ?
+returns-3 c = sym (course-spent _ _ _ _ (c .before .before .if1 .left) (c .before .if2 .left) (c .if3 .taken))
 
--- src/steps.rt:44:1
 returns-4 : tie.Need-returns-4
-returns-4 c = ?
+returns-4 c = sym (course-goes _ _ _ _ (c .before .before .if1 .left) (c .before .if2 .left) (c .if3 .left))
 
 pub course-of-spec : {M : Type 1} → statement M
 course-of-spec = tie.close (tie.spec returns returns-2 returns-3 returns-4)

@@ -1,37 +1,43 @@
+use Prim.Native.Nat.{ℕ, _+_, _-_, _≤_}
+use mathlib.Core.Path.{_∙_, ap}
+use native.Mathlib.Omega.{arith}
+use denote.Ref.{now}
+use lib.ListN.{length}
+use borrow.Rule.Slice.PartMut.{putMid}
+use Rattle.transcript.specs.Transcript.{stepLine}
+use Rattle.transcribe.proofs.PartLaws.{part-sets}
 use borrow.Author.Needs.{needs}
 use Rattle.transcribe.proofs.steps.put_step.Statement.{statement}
 use Rattle.transcribe.proofs.steps.put_step.Tie as tie
-use Rattle.transcribe.proofs.steps.put_step.Reads as reads
-use Rattle.transcribe.proofs.steps.put_step.Lts as lts
-use Rattle.transcript.proofs.line.step_line.Reads as step-line-reads
 
--- src/steps.rt:65:23
 sub-step-line : tie.Need-sub-step-line
 sub-step-line c = search needs
 
--- src/steps.rt:65:23
 part-step-line-start : tie.Need-part-step-line-start
 part-step-line-start c = search needs
 
--- src/steps.rt:65:23
 part-step-line-end : tie.Need-part-step-line-end
 part-step-line-end c = search needs
 
--- src/steps.rt:65:9
 step-line-requires : tie.Need-step-line-requires
 step-line-requires c κs = search needs
 
--- src/steps.rt:66:5
 add-result : tie.Need-add-result
 add-result c = search needs
 
--- src/steps.rt:60:1
 same-length : tie.Need-same-length
 same-length c = search needs
 
--- src/steps.rt:60:1
 returns : tie.Need-returns
-returns c = ?
+returns c =
+    let a = c .before .before .before .before .before .args in
+    let e = c .before .before .step-line .ensures in
+    let room = c .before .before .before .before .before .pre in
+    let most = e .1 .0 in
+    let whole = now (a .out) in
+    let line = stepLine (a .n) (a .kind) (a .clock) (a .pc) (a .sr) in
+    let fits : a .filled + length line ≤ length whole = omega (arith, e .0) in
+    (ap (λ (n : ℕ). a .filled + n) (e .0), (omega (arith, e .0), ap (putMid (a .filled) (length whole - a .filled) whole) (e .1 .1) ∙ part-sets (a .filled) whole line fits))
 
 pub put-step-spec : {M : Type 1} → statement M
 put-step-spec =

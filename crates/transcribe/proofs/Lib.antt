@@ -1,0 +1,5 @@
+pub mod PartLaws
+pub mod CourseLaws
+pub mod PageLaws
+pub mod TextLaws
+pub mod FilledLaws
