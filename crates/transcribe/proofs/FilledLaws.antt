@@ -183,7 +183,7 @@ module _ (S : Setting) (t : Transcript) (mem : List ℕ) where
   -- ---- the promise
 
   -- what is still to be written behind a page, and where the run is
-  page-promised : (room : ℕ) (p : Page) → PageIs S room (t .steps) (t .budget - t .steps) (worldOf t mem) (t .remaining) p
+  pub page-promised : (room : ℕ) (p : Page) → PageIs S room (t .steps) (t .budget - t .steps) (worldOf t mem) (t .remaining) p
       → (textLeft S t mem ≡ p .text ++ textLeft S (transcriptAfter t p) (p .world .memory))
       × (p .world ≡ worldAt (run S (p .steps - t .steps) (worldOf t mem)))
   unfolding run

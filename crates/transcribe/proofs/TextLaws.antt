@@ -19,14 +19,7 @@ use Rattle.definition.specs.Laws.{worldAt}
 use Rattle.transcript.specs.Transcript.{headerLine, endLine, refusalLine}
 use Rattle.transcribe.specs.declared.progress.Remaining.{Remaining}
 use Rattle.transcribe.specs.declared.progress.Remaining.the-variants.{RefusalLine, Header, Steps, Nothing}
-use Rattle.transcribe.specs.Transcribe.{lineRoom, lineOf, stepLines, stopLine, stepsText, remainingText, Page, emptyPage, behind, endPage, endOr, pageFrom, pageOf}
-
--- the lines that remain at most
-abbrev pub linesLeft : ℕ → Remaining → ℕ
-linesLeft left (RefusalLine r line) = 1
-linesLeft left Header = left + 2
-linesLeft left Steps = left + 1
-linesLeft left Nothing = 0
+use Rattle.transcribe.specs.Transcribe.{lineRoom, lineOf, stepLines, stopLine, stepsText, remainingText, Page, emptyPage, behind, endPage, endOr, linesLeft, pageFrom, pageOf}
 
 -- there is no room, and there is
 full : (room : ℕ) → ltb room lineRoom ≡ true → lineRoom ≤ room → ⊥
@@ -45,7 +38,7 @@ module _ (S : Setting) where
     pub fewer : lineRoom ≤ room → 1 ≤ linesLeft left remaining → linesLeft rest (p .remaining) < linesLeft left remaining
 
   -- a run of no steps stands where it is
-  stands-still : (n : ℕ) (w : World) → w ≡ worldAt (runFrom S n 0 w)
+  pub stands-still : (n : ℕ) (w : World) → w ≡ worldAt (runFrom S n 0 w)
   unfolding runFrom
   stands-still n w = go (ending (w .state))
     where
@@ -99,7 +92,7 @@ module _ (S : Setting) where
     text-spent g = ap (λ (z : Going). stopLine (stopOr S n w (record { state = w .state; memory = w .memory; end = Spent; steps = n }) z)) g
 
     -- a step of the run
-    lands : ending (w .state) ≡ goes → runFrom S n (suc left) w ≡ runFrom S (n + 1) left (worldAfter (stepOf S w))
+    pub lands : ending (w .state) ≡ goes → runFrom S n (suc left) w ≡ runFrom S (n + 1) left (worldAfter (stepOf S w))
     unfolding runFrom
     lands g = ap (stopOr S n w (runFrom S (n + 1) left (worldAfter (stepOf S w)))) g
 
@@ -111,7 +104,7 @@ module _ (S : Setting) where
       ++ stopLine (stopOr S n w (runFrom S (n + 1) left (worldAfter (stepOf S w))) z)) g
 
   -- where a run stops at once
-  stopped : (n k : ℕ) (w : World) (e : End) → ending (w .state) ≡ stops e
+  pub stopped : (n k : ℕ) (w : World) (e : End) → ending (w .state) ≡ stops e
       → runFrom S n (suc k) w ≡ record { state = w .state; memory = w .memory; end = e; steps = n }
   unfolding runFrom
   stopped n k w e g = ap (stopOr S n w (runFrom S (n + 1) k (worldAfter (stepOf S w)))) g

@@ -1,4 +1,3 @@
 pub mod Transcribe
-pub mod Output
 pub mod Promise
 pub mod internal

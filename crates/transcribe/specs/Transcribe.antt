@@ -47,6 +47,13 @@ module _ (S : Setting) where
   remainingText n left w Steps = stepsText n left w
   remainingText n left w Nothing = []
 
+-- how many lines remain, at most
+abbrev pub linesLeft : ℕ → Remaining → ℕ
+linesLeft left (RefusalLine r line) = 1
+linesLeft left Header = left + 2
+linesLeft left Steps = left + 1
+linesLeft left Nothing = 0
+
 -- ---- one call
 
 -- what one call writes, and where the transcript stands then: the steps made so far, the world, what remains
