@@ -1,0 +1,86 @@
+// One sentence on a refused sheet: the line, what is wrong with it, and the number and word of the refusal.
+ghost use mathlib.Core.Path.{_≡_};
+ghost use Prim.Native.Nat.{_+_, _≤_};
+ghost use lib.ListN.{length};
+ghost use lib.Seq.{sets};
+ghost use Rattle.explain.specs.Sentence.{lineLabel, refusalLabel, Explains};
+ghost use Rattle.explain.specs.internal.Reason.{reasonEnd, Wrote};
+use crate::fence::fence_reason;
+use crate::line::line_reason;
+use crate::part::line_at;
+use crate::text::put_all;
+use crate::text::put_number;
+use crate::text::put_text;
+use crate::timetable::budget_reason;
+use crate::timetable::stamp_reason;
+use base::refusal::Refusal;
+
+// Puts the line's number, where it has one.
+fn put_line(out: &mut [u8], line: u64) -> usize
+    ensures { λ r. ⌜ (r ≤ 27) × ((r ≡ length (lineLabel line)) × (now (out .exit) ≡ sets (now (out .entry)) 0 (lineLabel line))) ⌝ }
+{
+    if line == 0 {
+        return 0;
+    }
+    let a = put_all(out, 0, b"line ");
+    let b = put_number(out, a, line);
+    put_all(out, b, b": ")
+}
+
+// Puts the refusal's number and word, and the newline.
+fn put_refusal(out: &mut [u8], at: usize, refusal: Refusal) -> usize
+    requires { ⌜ at ≤ reasonEnd ⌝ }
+    ensures { λ r. ⌜ (r ≤ 256) × ((r ≡ at + length (refusalLabel refusal)) × (now (out .exit) ≡ sets (now (out .entry)) at (refusalLabel refusal))) ⌝ }
+{
+    match refusal {
+        Refusal::Map => put_all(out, at, b" (1 map)\n"),
+        Refusal::Fence => put_all(out, at, b" (2 fence)\n"),
+        Refusal::Timetable => put_all(out, at, b" (3 timetable)\n"),
+        Refusal::Frame => put_all(out, at, b" (4 frame)\n"),
+        Refusal::Distance => put_all(out, at, b" (5 distance)\n"),
+        Refusal::Clock => put_all(out, at, b" (6 clock)\n"),
+        Refusal::Line => put_all(out, at, b" (7 line)\n"),
+        Refusal::Sheet => put_all(out, at, b" (8 sheet)\n"),
+        Refusal::Word => put_all(out, at, b" (9 word)\n"),
+    }
+}
+
+// A refusal that no sheet gets.
+fn other_reason(out: &mut [u8], at: usize) -> usize
+    requires { ⌜ at ≤ reasonEnd ⌝ }
+    ensures { λ r. ⌜ (r ≤ reasonEnd) × Wrote (now (out .entry)) (now (out .exit)) at r ⌝ }
+{
+    put_text(out, at, b"no sheet is refused for this")
+}
+
+// Puts what is wrong.
+fn put_reason(out: &mut [u8], at: usize, sheet: &[u8], refusal: Refusal, line: u64) -> usize
+    requires { ⌜ at ≤ reasonEnd ⌝ }
+    ensures { λ r. ⌜ (r ≤ reasonEnd) × Wrote (now (out .entry)) (now (out .exit)) at r ⌝ }
+{
+    match refusal {
+        Refusal::Map => other_reason(out, at),
+        Refusal::Fence => fence_reason(out, at, line_at(sheet, line)),
+        Refusal::Timetable => stamp_reason(out, at, sheet, line),
+        Refusal::Frame => other_reason(out, at),
+        Refusal::Distance => budget_reason(out, at, line_at(sheet, line)),
+        Refusal::Clock => other_reason(out, at),
+        Refusal::Line => line_reason(out, at, sheet, line),
+        Refusal::Sheet => put_text(
+            out,
+            at,
+            b"the sheet has more than 32,768 bytes: shorten it, or make several of it",
+        ),
+        Refusal::Word => other_reason(out, at),
+    }
+}
+
+// Writes the sentence for a refusal and its line to the front of a lent buffer, as far as it goes, and answers its length.
+pub fn explanation(out: &mut [u8], sheet: &[u8], refusal: Refusal, line: u64) -> usize
+    ensures bounded { λ r. ⌜ r ≤ 256 ⌝ }
+    ensures sentence { λ r. ⌜ Explains refusal line (now (out .entry)) (now (out .exit)) r ⌝ }
+{
+    let a = put_line(out, line);
+    let b = put_reason(out, a, sheet, refusal, line);
+    put_refusal(out, b, refusal)
+}
