@@ -1,10 +1,8 @@
-// Why a layout is refused: the first rule that it breaks, with the addresses that break it, as they stand in the sheet.
-ghost use Prim.Native.Nat.{_≤_};
-ghost use Rattle.explain.specs.internal.Reason.{reasonEnd, Wrote};
-use crate::part::field;
-use crate::text::put_text;
-use crate::text::put_three;
-use crate::text::put_two_fields;
+// Why a layout is refused: the first rule that it breaks, with the addresses that break it.
+use crate::reason::Reason;
+use crate::reason::plain;
+use crate::reason::quoting;
+use crate::reason::quoting_two;
 use base::word::is_even;
 use layout::rules::Fault;
 use layout::rules::Rule;
@@ -13,152 +11,63 @@ use lines::line::Content;
 use lines::line::Line;
 use lines::line::read_line;
 
-// A rule is broken, and it cannot be told which.
-fn any_rule(out: &mut [u8], at: usize) -> usize
-    requires { ⌜ at ≤ reasonEnd ⌝ }
-    ensures { λ r. ⌜ (r ≤ reasonEnd) × Wrote (now (out .entry)) (now (out .exit)) at r ⌝ }
-{
-    put_text(out, at, b"the layout breaks a rule")
-}
-
 // The first odd address.
-fn odd_reason(out: &mut [u8], at: usize, line: &[u8], layout: Layout) -> usize
-    requires { ⌜ at ≤ reasonEnd ⌝ }
-    ensures { λ r. ⌜ (r ≤ reasonEnd) × Wrote (now (out .entry)) (now (out .exit)) at r ⌝ }
-{
+fn odd_reason(layout: Layout) -> Reason {
     let code = layout.code;
     let data = layout.data;
     if !is_even(code.start) {
-        return put_three(
-            out,
-            at,
-            b"code start ",
-            field(line, 1),
-            b" is odd: all five addresses are even",
-        );
+        return quoting(2, 1, 1);
     }
     if !is_even(code.end) {
-        return put_three(
-            out,
-            at,
-            b"code end ",
-            field(line, 2),
-            b" is odd: all five addresses are even",
-        );
+        return quoting(3, 1, 2);
     }
     if !is_even(data.start) {
-        return put_three(
-            out,
-            at,
-            b"data start ",
-            field(line, 3),
-            b" is odd: all five addresses are even",
-        );
+        return quoting(4, 1, 3);
     }
     if !is_even(data.end) {
-        return put_three(
-            out,
-            at,
-            b"data end ",
-            field(line, 4),
-            b" is odd: all five addresses are even",
-        );
+        return quoting(5, 1, 4);
     }
-    put_three(
-        out,
-        at,
-        b"service address ",
-        field(line, 5),
-        b" is odd: all five addresses are even",
-    )
+    quoting(6, 1, 5)
 }
 
 // The first section whose start is not below its end.
-fn empty_reason(out: &mut [u8], at: usize, line: &[u8], layout: Layout) -> usize
-    requires { ⌜ at ≤ reasonEnd ⌝ }
-    ensures { λ r. ⌜ (r ≤ reasonEnd) × Wrote (now (out .entry)) (now (out .exit)) at r ⌝ }
-{
+fn empty_reason(layout: Layout) -> Reason {
     let code = layout.code;
     if code.start < code.end {
-        return put_two_fields(
-            out,
-            at,
-            b"data start ",
-            field(line, 3),
-            b" is not below data end ",
-            field(line, 4),
-            b"",
-        );
+        return quoting_two(8, 1, 3, 1, 4);
     }
-    put_two_fields(
-        out,
-        at,
-        b"code start ",
-        field(line, 1),
-        b" is not below code end ",
-        field(line, 2),
-        b"",
-    )
+    quoting_two(7, 1, 1, 1, 2)
 }
 
 // The section that the service address lies in.
-fn service_reason(out: &mut [u8], at: usize, line: &[u8], layout: Layout) -> usize
-    requires { ⌜ at ≤ reasonEnd ⌝ }
-    ensures { λ r. ⌜ (r ≤ reasonEnd) × Wrote (now (out .entry)) (now (out .exit)) at r ⌝ }
-{
+fn service_reason(layout: Layout) -> Reason {
     let code = layout.code;
     if code.contains(layout.service) {
-        return put_three(
-            out,
-            at,
-            b"service address ",
-            field(line, 5),
-            b" lies in the code section: it is outside both sections",
-        );
+        return quoting(10, 1, 5);
     }
-    put_three(
-        out,
-        at,
-        b"service address ",
-        field(line, 5),
-        b" lies in the data section: it is outside both sections",
-    )
+    quoting(11, 1, 5)
 }
 
 // The rule that is broken.
-fn rule_reason(out: &mut [u8], at: usize, line: &[u8], layout: Layout, rule: Rule) -> usize
-    requires { ⌜ at ≤ reasonEnd ⌝ }
-    ensures { λ r. ⌜ (r ≤ reasonEnd) × Wrote (now (out .entry)) (now (out .exit)) at r ⌝ }
-{
+fn rule_reason(layout: Layout, rule: Rule) -> Reason {
     match rule {
-        Rule::Odd => odd_reason(out, at, line, layout),
-        Rule::Empty => empty_reason(out, at, line, layout),
-        Rule::Overlap => put_two_fields(
-            out,
-            at,
-            b"the data section, ",
-            field(line, 3),
-            b" to ",
-            field(line, 4),
-            b", overlaps the code section: move one of them",
-        ),
-        Rule::Service => service_reason(out, at, line, layout),
+        Rule::Odd => odd_reason(layout),
+        Rule::Empty => empty_reason(layout),
+        Rule::Overlap => quoting_two(9, 1, 3, 1, 4),
+        Rule::Service => service_reason(layout),
     }
 }
 
 // Why the layout of an L line is refused.
-pub(crate) fn fence_reason(out: &mut [u8], at: usize, line: &[u8]) -> usize
-    requires { ⌜ at ≤ reasonEnd ⌝ }
-    ensures { λ r. ⌜ (r ≤ reasonEnd) × Wrote (now (out .entry)) (now (out .exit)) at r ⌝ }
-{
+pub(crate) fn fence_reason(line: &[u8]) -> Reason {
     let Line::Parsed(content) = read_line(line) else {
-        return any_rule(out, at);
+        return plain(1);
     };
     let Content::Layout(layout) = content else {
-        return any_rule(out, at);
+        return plain(1);
     };
     let Fault::Broken(rule) = layout.fault() else {
-        return any_rule(out, at);
+        return plain(1);
     };
-    rule_reason(out, at, line, layout, rule)
+    rule_reason(layout, rule)
 }

@@ -2,6 +2,7 @@
 mod fence;
 mod line;
 mod part;
+mod reason;
 pub mod sentence;
 mod text;
 mod timetable;

@@ -1,12 +1,11 @@
 // Why a line cannot be read, as far as that is told simply.
-ghost use Prim.Native.Nat.{_≤_};
-ghost use Rattle.explain.specs.internal.Reason.{reasonEnd, Wrote};
 use crate::part::field;
 use crate::part::from_line;
 use crate::part::letter;
 use crate::part::line_at;
-use crate::text::put_text;
-use crate::text::put_three;
+use crate::reason::Reason;
+use crate::reason::plain;
+use crate::reason::quoting;
 use base::word::is_even;
 use lines::number::Hex;
 use lines::number::read_hex;
@@ -30,145 +29,69 @@ fn ends_in_return(line: &[u8]) -> bool {
     line[n - 1] == b'\r'
 }
 
-// There is no such line.
-fn missing_reason(out: &mut [u8], at: usize, line: u64) -> usize
-    requires { ⌜ at ≤ reasonEnd ⌝ }
-    ensures { λ r. ⌜ (r ≤ reasonEnd) × Wrote (now (out .entry)) (now (out .exit)) at r ⌝ }
-{
-    if line < 2 {
-        return put_text(
-            out,
-            at,
-            b"the sheet is empty: it begins with an L line and ends with a G line",
-        );
-    }
-    put_text(
-        out,
-        at,
-        b"the G line is missing: the last line is G, a tab and a budget",
-    )
-}
-
-// An M line.
-fn word_reason(out: &mut [u8], at: usize, line: &[u8]) -> usize
-    requires { ⌜ at ≤ reasonEnd ⌝ }
-    ensures { λ r. ⌜ (r ≤ reasonEnd) × Wrote (now (out .entry)) (now (out .exit)) at r ⌝ }
-{
+// An M line, line n.
+fn word_reason(line: &[u8], n: u64) -> Reason {
     let Hex::Parsed(address) = read_hex(field(line, 1)) else {
-        return put_text(
-            out,
-            at,
-            b"M takes an even address and a word, four hexadecimal digits in capitals each, parted by single tabs",
-        );
+        return plain(26);
     };
     if is_even(address) {
-        return put_text(
-            out,
-            at,
-            b"M takes an address and a word and no more, four hexadecimal digits in capitals each, parted by single tabs",
-        );
+        return plain(26);
     }
-    put_three(
-        out,
-        at,
-        b"address ",
-        field(line, 1),
-        b" is odd: M takes an even address and a word",
-    )
+    quoting(27, n, 1)
 }
 
-// A line after the first, by its letter.
-fn letter_reason(out: &mut [u8], at: usize, line: &[u8]) -> usize
-    requires { ⌜ at ≤ reasonEnd ⌝ }
-    ensures { λ r. ⌜ (r ≤ reasonEnd) × Wrote (now (out .entry)) (now (out .exit)) at r ⌝ }
-{
+// A line after the first, line n, by its letter.
+fn letter_reason(line: &[u8], n: u64) -> Reason {
     match letter(line) {
-        b'L' => put_text(out, at, b"a second L line: only the first line is one"),
-        b'M' => word_reason(out, at, line),
-        b'A' => put_text(
-            out,
-            at,
-            b"A takes a stamp, a decimal of at most 19 digits without a leading zero, after a single tab",
-        ),
-        b'G' => put_text(
-            out,
-            at,
-            b"G takes a budget, a decimal of at most 19 digits without a leading zero, after a single tab",
-        ),
-        _ => put_text(
-            out,
-            at,
-            b"a line begins with L, M, A or G and a tab, and this one does not",
-        ),
+        b'L' => plain(25),
+        b'M' => word_reason(line, n),
+        b'A' => plain(28),
+        b'G' => plain(29),
+        _ => plain(30),
     }
 }
 
 // The first line.
-fn first_reason(out: &mut [u8], at: usize, line: &[u8]) -> usize
-    requires { ⌜ at ≤ reasonEnd ⌝ }
-    ensures { λ r. ⌜ (r ≤ reasonEnd) × Wrote (now (out .entry)) (now (out .exit)) at r ⌝ }
-{
+fn first_reason(line: &[u8]) -> Reason {
     if letter(line) == b'L' {
-        return put_text(
-            out,
-            at,
-            b"L takes five addresses, four hexadecimal digits in capitals each, parted by single tabs",
-        );
+        return plain(24);
     }
-    put_text(
-        out,
-        at,
-        b"the first line is no L line: L and the five addresses of the layout come first",
-    )
+    plain(23)
 }
 
-// A line that ends with a newline.
-fn whole_reason(out: &mut [u8], at: usize, line: &[u8], first: bool) -> usize
-    requires { ⌜ at ≤ reasonEnd ⌝ }
-    ensures { λ r. ⌜ (r ≤ reasonEnd) × Wrote (now (out .entry)) (now (out .exit)) at r ⌝ }
-{
+// Line n, which a newline ends.
+fn whole_reason(line: &[u8], n: u64) -> Reason {
     if ends_in_return(line) {
-        return put_text(
-            out,
-            at,
-            b"the line ends with a carriage return: a newline alone ends a line",
-        );
+        return plain(21);
     }
     if holds_byte(line, b' ') {
-        return put_text(
-            out,
-            at,
-            b"the line has a space: fields are parted by single tabs",
-        );
+        return plain(22);
     }
-    if first {
-        return first_reason(out, at, line);
+    if n < 2 {
+        return first_reason(line);
     }
-    letter_reason(out, at, line)
+    letter_reason(line, n)
+}
+
+// There is no such line.
+fn missing_reason(line: u64) -> Reason {
+    if line < 2 {
+        return plain(17);
+    }
+    plain(18)
 }
 
 // Why a line of the sheet cannot be read.
-pub(crate) fn line_reason(out: &mut [u8], at: usize, sheet: &[u8], line: u64) -> usize
-    requires { ⌜ at ≤ reasonEnd ⌝ }
-    ensures { λ r. ⌜ (r ≤ reasonEnd) × Wrote (now (out .entry)) (now (out .exit)) at r ⌝ }
-{
+pub(crate) fn line_reason(sheet: &[u8], line: u64) -> Reason {
     let left = from_line(sheet, line);
     if follows_budget(sheet, line) {
-        return put_text(
-            out,
-            at,
-            b"something stands after the G line, which is the last",
-        );
+        return plain(19);
     }
     if left.len() == 0 {
-        return missing_reason(out, at, line);
+        return missing_reason(line);
     }
     if !holds_byte(left, b'\n') {
-        return put_text(
-            out,
-            at,
-            b"the sheet ends without a newline: add one after its last line",
-        );
+        return plain(20);
     }
-    whole_reason(out, at, head(left, b'\n'), line < 2)
+    whole_reason(head(left, b'\n'), line)
 }

@@ -4,14 +4,16 @@ ghost use Prim.Native.Nat.{_+_, _≤_};
 ghost use lib.ListN.{length};
 ghost use lib.Seq.{sets};
 ghost use Rattle.explain.specs.Sentence.{lineLabel, refusalLabel, Explains};
-ghost use Rattle.explain.specs.internal.Reason.{reasonEnd, Wrote};
+ghost use Rattle.explain.specs.internal.Reason.{reasonEnd};
 use crate::fence::fence_reason;
 use crate::line::line_reason;
 use crate::part::line_at;
+use crate::reason::Reason;
+use crate::reason::plain;
+use crate::reason::put_reason;
+use crate::reason::quoting;
 use crate::text::put_all;
 use crate::text::put_number;
-use crate::text::put_text;
-use crate::timetable::budget_reason;
 use crate::timetable::stamp_reason;
 use base::refusal::Refusal;
 
@@ -45,33 +47,18 @@ fn put_refusal(out: &mut [u8], at: usize, refusal: Refusal) -> usize
     }
 }
 
-// A refusal that no sheet gets.
-fn other_reason(out: &mut [u8], at: usize) -> usize
-    requires { ⌜ at ≤ reasonEnd ⌝ }
-    ensures { λ r. ⌜ (r ≤ reasonEnd) × Wrote (now (out .entry)) (now (out .exit)) at r ⌝ }
-{
-    put_text(out, at, b"no sheet is refused for this")
-}
-
-// Puts what is wrong.
-fn put_reason(out: &mut [u8], at: usize, sheet: &[u8], refusal: Refusal, line: u64) -> usize
-    requires { ⌜ at ≤ reasonEnd ⌝ }
-    ensures { λ r. ⌜ (r ≤ reasonEnd) × Wrote (now (out .entry)) (now (out .exit)) at r ⌝ }
-{
+// What is wrong.
+fn reason_of(sheet: &[u8], refusal: Refusal, line: u64) -> Reason {
     match refusal {
-        Refusal::Map => other_reason(out, at),
-        Refusal::Fence => fence_reason(out, at, line_at(sheet, line)),
-        Refusal::Timetable => stamp_reason(out, at, sheet, line),
-        Refusal::Frame => other_reason(out, at),
-        Refusal::Distance => budget_reason(out, at, line_at(sheet, line)),
-        Refusal::Clock => other_reason(out, at),
-        Refusal::Line => line_reason(out, at, sheet, line),
-        Refusal::Sheet => put_text(
-            out,
-            at,
-            b"the sheet has more than 32,768 bytes: shorten it, or make several of it",
-        ),
-        Refusal::Word => other_reason(out, at),
+        Refusal::Map => plain(32),
+        Refusal::Fence => fence_reason(line_at(sheet, line)),
+        Refusal::Timetable => stamp_reason(sheet, line),
+        Refusal::Frame => plain(32),
+        Refusal::Distance => quoting(16, line, 1),
+        Refusal::Clock => plain(32),
+        Refusal::Line => line_reason(sheet, line),
+        Refusal::Sheet => plain(31),
+        Refusal::Word => plain(32),
     }
 }
 
@@ -81,6 +68,6 @@ pub fn explanation(out: &mut [u8], sheet: &[u8], refusal: Refusal, line: u64) ->
     ensures sentence { λ r. ⌜ Explains refusal line (now (out .entry)) (now (out .exit)) r ⌝ }
 {
     let a = put_line(out, line);
-    let b = put_reason(out, a, sheet, refusal, line);
+    let b = put_reason(out, a, sheet, reason_of(sheet, refusal, line));
     put_refusal(out, b, refusal)
 }

@@ -44,7 +44,7 @@ fn first<'a>(text: &'a [u8], n: usize) -> &'a [u8]
 }
 
 // Puts a part of a reason.
-pub(crate) fn put_text(out: &mut [u8], at: usize, text: &[u8]) -> usize
+fn put_text(out: &mut [u8], at: usize, text: &[u8]) -> usize
     requires { ⌜ at ≤ reasonEnd ⌝ }
     ensures { λ r. ⌜ (r ≤ reasonEnd) × Wrote (now (out .entry)) (now (out .exit)) at r ⌝ }
 {
@@ -52,13 +52,7 @@ pub(crate) fn put_text(out: &mut [u8], at: usize, text: &[u8]) -> usize
 }
 
 // Puts three parts.
-pub(crate) fn put_three(
-    out: &mut [u8],
-    at: usize,
-    first: &[u8],
-    second: &[u8],
-    third: &[u8],
-) -> usize
+fn put_three(out: &mut [u8], at: usize, first: &[u8], second: &[u8], third: &[u8]) -> usize
     requires { ⌜ at ≤ reasonEnd ⌝ }
     ensures { λ r. ⌜ (r ≤ reasonEnd) × Wrote (now (out .entry)) (now (out .exit)) at r ⌝ }
 {
@@ -67,20 +61,20 @@ pub(crate) fn put_three(
     put_text(out, b, third)
 }
 
-// Puts a text, a field of the sheet, a text, another field and a text.
-pub(crate) fn put_two_fields(
+// Puts five parts.
+pub(crate) fn put_five(
     out: &mut [u8],
     at: usize,
     first: &[u8],
-    field: &[u8],
     second: &[u8],
-    other: &[u8],
     third: &[u8],
+    fourth: &[u8],
+    fifth: &[u8],
 ) -> usize
     requires { ⌜ at ≤ reasonEnd ⌝ }
     ensures { λ r. ⌜ (r ≤ reasonEnd) × Wrote (now (out .entry)) (now (out .exit)) at r ⌝ }
 {
     let a = put_text(out, at, first);
-    let b = put_three(out, a, field, second, other);
-    put_text(out, b, third)
+    let b = put_three(out, a, second, third, fourth);
+    put_text(out, b, fifth)
 }

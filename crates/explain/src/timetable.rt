@@ -1,12 +1,11 @@
-// Why a stamp or a budget is refused, with the number as it stands in the sheet.
-ghost use Prim.Native.Nat.{_≤_};
-ghost use Rattle.explain.specs.internal.Reason.{reasonEnd, Wrote};
+// Why a stamp is refused.
 use crate::part::field;
 use crate::part::letter;
 use crate::part::line_at;
-use crate::text::put_text;
-use crate::text::put_three;
-use crate::text::put_two_fields;
+use crate::reason::Reason;
+use crate::reason::plain;
+use crate::reason::quoting;
+use crate::reason::quoting_two;
 use base::limits::LAST_CLOCK;
 use base::limits::MOST_STAMPS;
 use lines::number::Decimal;
@@ -61,55 +60,17 @@ fn number(field: &[u8]) -> u64 {
 }
 
 // Why the stamp of a line is refused.
-pub(crate) fn stamp_reason(out: &mut [u8], at: usize, sheet: &[u8], line: u64) -> usize
-    requires { ⌜ at ≤ reasonEnd ⌝ }
-    ensures { λ r. ⌜ (r ≤ reasonEnd) × Wrote (now (out .entry)) (now (out .exit)) at r ⌝ }
-{
-    let stamp = field(line_at(sheet, line), 1);
+pub(crate) fn stamp_reason(sheet: &[u8], line: u64) -> Reason {
     let before = stamps_before(sheet, line);
-    if before.count >= MOST_STAMPS {
-        return put_three(
-            out,
-            at,
-            b"stamp ",
-            stamp,
-            b" is the 4,097th: a sheet has at most 4,096",
-        );
+    if MOST_STAMPS <= before.count {
+        return quoting(12, line, 1);
     }
-    let value = number(stamp);
-    if value == 0 {
-        return put_text(out, at, b"stamp 0 is too low: stamps begin at 1");
+    let stamp = number(field(line_at(sheet, line), 1));
+    if stamp == 0 {
+        return plain(13);
     }
-    if value > LAST_CLOCK {
-        return put_three(
-            out,
-            at,
-            b"stamp ",
-            stamp,
-            b" is above 2^62, which is 4611686018427387904",
-        );
+    if stamp > LAST_CLOCK {
+        return quoting(14, line, 1);
     }
-    put_two_fields(
-        out,
-        at,
-        b"stamp ",
-        stamp,
-        b" is not above the one before it, ",
-        field(line_at(sheet, before.line), 1),
-        b"",
-    )
-}
-
-// Why the budget of a line is refused.
-pub(crate) fn budget_reason(out: &mut [u8], at: usize, line: &[u8]) -> usize
-    requires { ⌜ at ≤ reasonEnd ⌝ }
-    ensures { λ r. ⌜ (r ≤ reasonEnd) × Wrote (now (out .entry)) (now (out .exit)) at r ⌝ }
-{
-    put_three(
-        out,
-        at,
-        b"the budget ",
-        field(line, 1),
-        b" is above 1,000,000: lower it",
-    )
+    quoting_two(15, line, 1, before.line, 1)
 }

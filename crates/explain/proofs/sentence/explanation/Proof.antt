@@ -6,6 +6,9 @@ use Rattle.explain.proofs.sentence.explanation.Tie as tie
 put-line-requires : tie.Need-put-line-requires
 put-line-requires c κs = search needs
 
+reason-of-requires : tie.Need-reason-of-requires
+reason-of-requires c κs = search needs
+
 put-reason-requires : tie.Need-put-reason-requires
 put-reason-requires c κs = search needs
 
@@ -17,7 +20,7 @@ same-length c = search needs
 
 returns : tie.Need-returns
 returns c =
-    let p = c .before .before .before .before .before .before .before .before .before .before .put-line .ensures in
+    let p = c .before .before .before .before .before .before .before .before .before .before .before .put-line .ensures in
     let q = c .before .before .before .before .before .before .put-reason .ensures in
     let r = c .before .before .put-refusal .ensures in
     (r .0, explained _ _ (p .1) (q .1) (text-is-put _ (r .1)))
@@ -25,4 +28,4 @@ returns c =
 pub explanation-spec : {M : Type 1} → statement M
 explanation-spec =
     tie.close
-    (tie.spec put-line-requires put-reason-requires put-refusal-requires same-length returns)
+    (tie.spec put-line-requires reason-of-requires put-reason-requires put-refusal-requires same-length returns)

@@ -1,7 +1,7 @@
 use Rattle.explain.proofs.SentenceLaws.{wrote-then}
 use borrow.Author.Needs.{needs}
-use Rattle.explain.proofs.text.put_two_fields.Statement.{statement}
-use Rattle.explain.proofs.text.put_two_fields.Tie as tie
+use Rattle.explain.proofs.text.put_five.Statement.{statement}
+use Rattle.explain.proofs.text.put_five.Tie as tie
 
 put-text-requires : tie.Need-put-text-requires
 put-text-requires c κs = search needs
@@ -22,7 +22,7 @@ returns c =
     let r = c .before .before .put-text2 .ensures in
     (r .0, wrote-then (p .1) (wrote-then (q .1) (r .1)))
 
-pub put-two-fields-spec : {M : Type 1} → statement M
-put-two-fields-spec =
+pub put-five-spec : {M : Type 1} → statement M
+put-five-spec =
     tie.close
     (tie.spec put-text-requires put-three-requires put-text-requires-2 same-length returns)
