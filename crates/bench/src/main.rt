@@ -6,6 +6,7 @@ mod play;
 use base::limits::MEMORY_BYTES;
 use base::limits::MOST_SHEET_BYTES;
 use base::limits::MOST_STAMPS;
+use explain::sentence::explanation;
 use input::Input;
 use sheet::reader::Answer;
 use sheet::reader::read_sheet;
@@ -18,7 +19,7 @@ const INPUT_BYTES: usize = MOST_SHEET_BYTES + 1;
 // Lines are gathered and written together.
 const PAGE_BYTES: usize = 65536;
 
-// Reads the sheet whole, and plays it or prints its refusal.
+// Reads the sheet whole, and plays it or prints its refusal, and on standard error what is wrong.
 fn main() {
     let mut sheet = [0u8; INPUT_BYTES];
     let mut out = [0u8; PAGE_BYTES];
@@ -34,6 +35,8 @@ fn main() {
         Answer::Refused(refusal, line) => {
             let k = refusal_line(&mut out, refusal, line);
             output::flush(&out, k);
+            let n = explanation(&mut out, text, refusal, line);
+            output::complain(&out[0..n]);
         }
         Answer::Read(setup) => {
             let mut mem = [0u8; MEMORY_BYTES];

@@ -5,16 +5,15 @@ use mathlib.Core.List.{List, [], _∷_, _++_}
 use native.Mathlib.Omega.{arith}
 use native.Mathlib.Nat.{zero-add}
 use lib.ListN.{length, take, drop, length-drop}
-use lib.Seq.{sets}
+use lib.Seq.{sets, length-take-le}
 use borrow.Author.Tests.{ne-eqb}
 use Rattle.base.specs.declared.refusal.Refusal.{Refusal}
-use Rattle.base.specs.declared.refusal.Refusal.the-variants.{Map, Fence, Timetable, Frame, Distance, Clock, Line, Sheet, Word}
 use Rattle.base.specs.Test.{if_then_else_}
 use Rattle.base.proofs.Tests.{if-false}
 use Rattle.lines.proofs.Finding.{from-here}
-use Rattle.transcript.specs.Transcript.{decimalBytes, decimalFrom}
+use Rattle.transcript.specs.Transcript.{decimalBytes}
 use Rattle.transcript.proofs.TranscriptLaws.{Put, put-then}
-use Rattle.explain.specs.Sentence.{lineLabel, refusalWord, refusalLabel, sentence, Explains}
+use Rattle.explain.specs.Sentence.{lineLabel, refusalLabel, sentence, Explains}
 use Rattle.explain.specs.internal.Reason.{Wrote}
 
 -- some bytes, as those that they are
@@ -51,23 +50,14 @@ line-labelled line h p k q r =
     let w = put-then p (put-then q r) in
     (omega (arith, p .ends, r .ends), rw (if-false _ _ _ (ne-eqb line 0 h)) w)
 
--- the label of a refusal is short
-label-length : (r : Refusal) → length (refusalLabel r) ≤ 16
-unfolding refusalLabel refusalWord decimalBytes decimalFrom if_then_else_
-label-length Map = omega arith
-label-length Fence = omega arith
-label-length Timetable = omega arith
-label-length Frame = omega arith
-label-length Distance = omega arith
-label-length Clock = omega arith
-label-length Line = omega arith
-label-length Sheet = omega arith
-label-length Word = omega arith
+-- the label of a refusal
+module _ (text : List ℕ) (size : ℕ) {label : List ℕ} (l : (size ≤ 16) × ((length text ≡ 16) × (take size text ≡ label))) where
+  pub front-length : length (take size text) ≡ size
+  front-length = length-take-le size text (omega (arith, l .0, l .1 .0))
 
--- the label of the refusal that was told
-pub refusal-labelled : {entry exit : List ℕ} {at to : ℕ} (r told : Refusal) → r ≡ told → at ≤ 240
-    → Put entry exit at to (refusalLabel told) → (to ≤ 256) × Put entry exit at to (refusalLabel r)
-refusal-labelled r told e h p = (omega (arith, p .ends, label-length told), rw e p)
+  pub refusal-put : {entry exit : List ℕ} {at to : ℕ} → at ≤ 240 → Put entry exit at to (take size text)
+      → (to ≤ 256) × Put entry exit at to label
+  refusal-put h p = (omega (arith, p .ends, front-length, l .0), rw (← (l .1 .1)) p)
 
 -- the three parts of a sentence
 pub explained : {entry one two exit : List ℕ} {a b to : ℕ} (r : Refusal) (line : ℕ)

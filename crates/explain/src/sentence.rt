@@ -1,7 +1,7 @@
 // One sentence on a refused sheet: the line, what is wrong with it, and the number and word of the refusal.
 ghost use mathlib.Core.Path.{_≡_};
 ghost use Prim.Native.Nat.{_+_, _≤_};
-ghost use lib.ListN.{length};
+ghost use lib.ListN.{length, take};
 ghost use lib.Seq.{sets};
 ghost use Rattle.explain.specs.Sentence.{lineLabel, refusalLabel, Explains};
 ghost use Rattle.explain.specs.internal.Reason.{reasonEnd};
@@ -29,22 +29,64 @@ fn put_line(out: &mut [u8], line: u64) -> usize
     put_all(out, b, b": ")
 }
 
+// A refusal's number and word, and the newline: the first bytes of the text.
+pub struct Label {
+    pub text: [u8; 16],
+    pub length: usize,
+}
+
+fn label_of(refusal: Refusal) -> Label
+    ensures { λ r. ⌜ (r .length ≤ 16) × ((length (r .text) ≡ 16) × (take (r .length) (r .text) ≡ refusalLabel refusal)) ⌝ }
+{
+    match refusal {
+        Refusal::Map => Label {
+            text: *b" (1 map)\n       ",
+            length: 9,
+        },
+        Refusal::Fence => Label {
+            text: *b" (2 fence)\n     ",
+            length: 11,
+        },
+        Refusal::Timetable => Label {
+            text: *b" (3 timetable)\n ",
+            length: 15,
+        },
+        Refusal::Frame => Label {
+            text: *b" (4 frame)\n     ",
+            length: 11,
+        },
+        Refusal::Distance => Label {
+            text: *b" (5 distance)\n  ",
+            length: 14,
+        },
+        Refusal::Clock => Label {
+            text: *b" (6 clock)\n     ",
+            length: 11,
+        },
+        Refusal::Line => Label {
+            text: *b" (7 line)\n      ",
+            length: 10,
+        },
+        Refusal::Sheet => Label {
+            text: *b" (8 sheet)\n     ",
+            length: 11,
+        },
+        Refusal::Word => Label {
+            text: *b" (9 word)\n      ",
+            length: 10,
+        },
+    }
+}
+
 // Puts the refusal's number and word, and the newline.
 fn put_refusal(out: &mut [u8], at: usize, refusal: Refusal) -> usize
     requires { ⌜ at ≤ reasonEnd ⌝ }
     ensures { λ r. ⌜ (r ≤ 256) × ((r ≡ at + length (refusalLabel refusal)) × (now (out .exit) ≡ sets (now (out .entry)) at (refusalLabel refusal))) ⌝ }
 {
-    match refusal {
-        Refusal::Map => put_all(out, at, b" (1 map)\n"),
-        Refusal::Fence => put_all(out, at, b" (2 fence)\n"),
-        Refusal::Timetable => put_all(out, at, b" (3 timetable)\n"),
-        Refusal::Frame => put_all(out, at, b" (4 frame)\n"),
-        Refusal::Distance => put_all(out, at, b" (5 distance)\n"),
-        Refusal::Clock => put_all(out, at, b" (6 clock)\n"),
-        Refusal::Line => put_all(out, at, b" (7 line)\n"),
-        Refusal::Sheet => put_all(out, at, b" (8 sheet)\n"),
-        Refusal::Word => put_all(out, at, b" (9 word)\n"),
-    }
+    let l = label_of(refusal);
+    let text = l.text;
+    let length = l.length;
+    put_all(out, at, &text[..length])
 }
 
 // What is wrong.
