@@ -30,31 +30,24 @@ fn odd_reason(layout: Layout) -> Reason {
     quoting(6, 1, 5)
 }
 
-// The first section whose start is not below its end.
-fn empty_reason(layout: Layout) -> Reason {
-    let code = layout.code;
-    if code.start < code.end {
-        return quoting_two(8, 1, 3, 1, 4);
-    }
-    quoting_two(7, 1, 1, 1, 2)
-}
-
-// The section that the service address lies in.
-fn service_reason(layout: Layout) -> Reason {
-    let code = layout.code;
-    if code.contains(layout.service) {
-        return quoting(10, 1, 5);
-    }
-    quoting(11, 1, 5)
-}
-
-// The rule that is broken.
+// The rule that is broken: an odd address, a start not below its end, sections that overlap, a service address in one.
 fn rule_reason(layout: Layout, rule: Rule) -> Reason {
+    let code = layout.code;
     match rule {
         Rule::Odd => odd_reason(layout),
-        Rule::Empty => empty_reason(layout),
+        Rule::Empty => {
+            if code.start < code.end {
+                return quoting_two(8, 1, 3, 1, 4);
+            }
+            quoting_two(7, 1, 1, 1, 2)
+        }
         Rule::Overlap => quoting_two(9, 1, 3, 1, 4),
-        Rule::Service => service_reason(layout),
+        Rule::Service => {
+            if code.contains(layout.service) {
+                return quoting(10, 1, 5);
+            }
+            quoting(11, 1, 5)
+        }
     }
 }
 

@@ -51,14 +51,6 @@ fn letter_reason(line: &[u8], n: u64) -> Reason {
     }
 }
 
-// The first line.
-fn first_reason(line: &[u8]) -> Reason {
-    if letter(line) == b'L' {
-        return plain(24);
-    }
-    plain(23)
-}
-
 // Line n, which a newline ends.
 fn whole_reason(line: &[u8], n: u64) -> Reason {
     if ends_in_return(line) {
@@ -67,18 +59,13 @@ fn whole_reason(line: &[u8], n: u64) -> Reason {
     if holds_byte(line, b' ') {
         return plain(22);
     }
-    if n < 2 {
-        return first_reason(line);
+    if n > 1 {
+        return letter_reason(line, n);
     }
-    letter_reason(line, n)
-}
-
-// There is no such line.
-fn missing_reason(line: u64) -> Reason {
-    if line < 2 {
-        return plain(17);
+    if letter(line) == b'L' {
+        return plain(24);
     }
-    plain(18)
+    plain(23)
 }
 
 // Why a line of the sheet cannot be read.
@@ -87,8 +74,11 @@ pub(crate) fn line_reason(sheet: &[u8], line: u64) -> Reason {
     if follows_budget(sheet, line) {
         return plain(19);
     }
+    if left.len() == 0 && line < 2 {
+        return plain(17);
+    }
     if left.len() == 0 {
-        return missing_reason(line);
+        return plain(18);
     }
     if !holds_byte(left, b'\n') {
         return plain(20);
