@@ -1,4 +1,5 @@
 // Why a layout is refused: the first rule that it breaks, with the addresses that break it.
+use crate::reason;
 use crate::reason::Reason;
 use crate::reason::plain;
 use crate::reason::quoting;
@@ -16,18 +17,18 @@ fn odd_reason(layout: Layout) -> Reason {
     let code = layout.code;
     let data = layout.data;
     if !is_even(code.start) {
-        return quoting(2, 1, 1);
+        return quoting(reason::CODE_START_ODD, 1, 1);
     }
     if !is_even(code.end) {
-        return quoting(3, 1, 2);
+        return quoting(reason::CODE_END_ODD, 1, 2);
     }
     if !is_even(data.start) {
-        return quoting(4, 1, 3);
+        return quoting(reason::DATA_START_ODD, 1, 3);
     }
     if !is_even(data.end) {
-        return quoting(5, 1, 4);
+        return quoting(reason::DATA_END_ODD, 1, 4);
     }
-    quoting(6, 1, 5)
+    quoting(reason::SERVICE_ODD, 1, 5)
 }
 
 // The rule that is broken: an odd address, a start not below its end, sections that overlap, a service address in one.
@@ -37,16 +38,16 @@ fn rule_reason(layout: Layout, rule: Rule) -> Reason {
         Rule::Odd => odd_reason(layout),
         Rule::Empty => {
             if code.start < code.end {
-                return quoting_two(8, 1, 3, 1, 4);
+                return quoting_two(reason::DATA_EMPTY, 1, 3, 1, 4);
             }
-            quoting_two(7, 1, 1, 1, 2)
+            quoting_two(reason::CODE_EMPTY, 1, 1, 1, 2)
         }
-        Rule::Overlap => quoting_two(9, 1, 3, 1, 4),
+        Rule::Overlap => quoting_two(reason::OVERLAP, 1, 3, 1, 4),
         Rule::Service => {
             if code.contains(layout.service) {
-                return quoting(10, 1, 5);
+                return quoting(reason::SERVICE_IN_CODE, 1, 5);
             }
-            quoting(11, 1, 5)
+            quoting(reason::SERVICE_IN_DATA, 1, 5)
         }
     }
 }
@@ -54,13 +55,13 @@ fn rule_reason(layout: Layout, rule: Rule) -> Reason {
 // Why the layout of an L line is refused.
 pub(crate) fn fence_reason(line: &[u8]) -> Reason {
     let Line::Parsed(content) = read_line(line) else {
-        return plain(1);
+        return plain(reason::ANY_RULE);
     };
     let Content::Layout(layout) = content else {
-        return plain(1);
+        return plain(reason::ANY_RULE);
     };
     let Fault::Broken(rule) = layout.fault() else {
-        return plain(1);
+        return plain(reason::ANY_RULE);
     };
     rule_reason(layout, rule)
 }

@@ -1,4 +1,4 @@
-// What is wrong with a sheet: a text by its number, and the two fields of the sheet that it quotes.
+// What is wrong with a sheet: a text by its number, and the fields of the sheet that it quotes in the places of its percent signs.
 ghost use Prim.Native.Nat.{_≤_};
 ghost use Rattle.explain.specs.internal.Reason.{reasonEnd, Wrote};
 use crate::part::field;
@@ -13,6 +13,7 @@ pub struct Place {
     pub field: u64,
 }
 
+// A text, and the fields for its first and its second percent sign.
 pub struct Reason {
     pub text: u64,
     pub first: Place,
@@ -64,6 +65,71 @@ fn put_filled(out: &mut [u8], at: usize, text: &[u8], first: &[u8], second: &[u8
     )
 }
 
+// The texts by their numbers, in the order in which put_reason has them.
+pub const ANY_RULE: u64 = 1;
+
+pub const CODE_START_ODD: u64 = 2;
+
+pub const CODE_END_ODD: u64 = 3;
+
+pub const DATA_START_ODD: u64 = 4;
+
+pub const DATA_END_ODD: u64 = 5;
+
+pub const SERVICE_ODD: u64 = 6;
+
+pub const CODE_EMPTY: u64 = 7;
+
+pub const DATA_EMPTY: u64 = 8;
+
+pub const OVERLAP: u64 = 9;
+
+pub const SERVICE_IN_CODE: u64 = 10;
+
+pub const SERVICE_IN_DATA: u64 = 11;
+
+pub const TOO_MANY_STAMPS: u64 = 12;
+
+pub const STAMP_0: u64 = 13;
+
+pub const STAMP_LATE: u64 = 14;
+
+pub const STAMP_NOT_RISING: u64 = 15;
+
+pub const BUDGET_HIGH: u64 = 16;
+
+pub const EMPTY_SHEET: u64 = 17;
+
+pub const G_MISSING: u64 = 18;
+
+pub const AFTER_G: u64 = 19;
+
+pub const NO_NEWLINE: u64 = 20;
+
+pub const CARRIAGE_RETURN: u64 = 21;
+
+pub const SPACE: u64 = 22;
+
+pub const L_MISSING: u64 = 23;
+
+pub const L_FORM: u64 = 24;
+
+pub const SECOND_L: u64 = 25;
+
+pub const M_FORM: u64 = 26;
+
+pub const M_ODD: u64 = 27;
+
+pub const A_FORM: u64 = 28;
+
+pub const G_FORM: u64 = 29;
+
+pub const NO_LETTER: u64 = 30;
+
+pub const TOO_LONG: u64 = 31;
+
+pub const NO_REASON: u64 = 32;
+
 // Puts a reason. The texts are counted from 1.
 pub(crate) fn put_reason(out: &mut [u8], at: usize, sheet: &[u8], reason: Reason) -> usize
     requires { ⌜ at ≤ reasonEnd ⌝ }
@@ -73,16 +139,16 @@ pub(crate) fn put_reason(out: &mut [u8], at: usize, sheet: &[u8], reason: Reason
     let b = reason.second;
     let text = line_at(
         b"the layout breaks a rule
-code start % is odd: all five addresses are even
-code end % is odd: all five addresses are even
-data start % is odd: all five addresses are even
-data end % is odd: all five addresses are even
-service address % is odd: all five addresses are even
+code start % is odd: all five addresses must be even
+code end % is odd: all five addresses must be even
+data start % is odd: all five addresses must be even
+data end % is odd: all five addresses must be even
+service address % is odd: all five addresses must be even
 code start % is not below code end %
 data start % is not below data end %
 the data section, % to %, overlaps the code section: move one of them
-service address % lies in the code section: it is outside both sections
-service address % lies in the data section: it is outside both sections
+service address % lies in the code section: it must be outside both
+service address % lies in the data section: it must be outside both
 stamp % is the 4,097th: a sheet has at most 4,096
 stamp 0 is too low: stamps begin at 1
 stamp % is above 2^62, which is 4611686018427387904
@@ -90,7 +156,7 @@ stamp % is not above the one before it, %
 the budget % is above 1,000,000: lower it
 the sheet is empty: it begins with an L line and ends with a G line
 the G line is missing: the last line is G, a tab and a budget
-something stands after the G line, which is the last
+something stands after the G line, which must be the last
 the sheet ends without a newline: add one after its last line
 the line ends with a carriage return: a newline alone ends a line
 the line has a space: fields are parted by single tabs

@@ -8,6 +8,7 @@ ghost use Rattle.explain.specs.internal.Reason.{reasonEnd};
 use crate::fence::fence_reason;
 use crate::line::line_reason;
 use crate::part::line_at;
+use crate::reason;
 use crate::reason::Reason;
 use crate::reason::plain;
 use crate::reason::put_reason;
@@ -92,15 +93,15 @@ fn put_refusal(out: &mut [u8], at: usize, refusal: Refusal) -> usize
 // What is wrong.
 fn reason_of(sheet: &[u8], refusal: Refusal, line: u64) -> Reason {
     match refusal {
-        Refusal::Map => plain(32),
+        Refusal::Map => plain(reason::NO_REASON),
         Refusal::Fence => fence_reason(line_at(sheet, line)),
         Refusal::Timetable => stamp_reason(sheet, line),
-        Refusal::Frame => plain(32),
-        Refusal::Distance => quoting(16, line, 1),
-        Refusal::Clock => plain(32),
+        Refusal::Frame => plain(reason::NO_REASON),
+        Refusal::Distance => quoting(reason::BUDGET_HIGH, line, 1),
+        Refusal::Clock => plain(reason::NO_REASON),
         Refusal::Line => line_reason(sheet, line),
-        Refusal::Sheet => plain(31),
-        Refusal::Word => plain(32),
+        Refusal::Sheet => plain(reason::TOO_LONG),
+        Refusal::Word => plain(reason::NO_REASON),
     }
 }
 

@@ -2,6 +2,7 @@
 use crate::part::field;
 use crate::part::letter;
 use crate::part::line_at;
+use crate::reason;
 use crate::reason::Reason;
 use crate::reason::plain;
 use crate::reason::quoting;
@@ -63,14 +64,14 @@ fn number(field: &[u8]) -> u64 {
 pub(crate) fn stamp_reason(sheet: &[u8], line: u64) -> Reason {
     let before = stamps_before(sheet, line);
     if MOST_STAMPS <= before.count {
-        return quoting(12, line, 1);
+        return quoting(reason::TOO_MANY_STAMPS, line, 1);
     }
     let stamp = number(field(line_at(sheet, line), 1));
     if stamp == 0 {
-        return plain(13);
+        return plain(reason::STAMP_0);
     }
     if stamp > LAST_CLOCK {
-        return quoting(14, line, 1);
+        return quoting(reason::STAMP_LATE, line, 1);
     }
-    quoting_two(15, line, 1, before.line, 1)
+    quoting_two(reason::STAMP_NOT_RISING, line, 1, before.line, 1)
 }
