@@ -49,12 +49,13 @@ started mem m answer e h =
     ap (λ (c : Called StartAnswer). c .state) e ∙ ap (λ (v : Verdict). startAnswered mem v .state) (if-true _ _ _ h)
 
 module _ (sheet mem stamps : List ℕ) where
-  pub opened-refused : (r : Refusal) (line : ℕ) → Refused r line ≡ sheetAnswer sheet → (L : Layout) (m : State) (budget : ℕ)
+  pub opened-refused : (r : Refusal) (line : ℕ) → Refused r line ≡ sheetAnswer sheet → length mem ≡ memoryBytes → (L : Layout) (m : State) (budget : ℕ)
       → OpenPromise sheet mem stamps
       (record { layout = L; count = 0; transcript = record { state = m; steps = 0; budget = budget; remaining = RefusalLine r line } }) mem stamps
   unfolding sheetOutput
-  opened-refused r line e L m budget =
+  opened-refused r line e l L m budget =
       record {
+        size = sym l;
         fits = omega arith;
         output = ap (outputOf sheet) e;
         taken = sym no-tests;
@@ -97,6 +98,7 @@ module _ (sheet mem stamps : List ℕ) where
         let S = settingOf (setup .layout) (take (setup .stamps) stampsThen) in
         let timed : timetable (take (setup .stamps) stampsThen) ≡ true = ap timetable own ∙ r .rising in
         record {
+          size = sym l;
           fits = omega arith;
           output =
               ap (λ (b : ℕ). headerLine ++ stepsText S 0 b (world m memThen)) z

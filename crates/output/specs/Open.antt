@@ -4,6 +4,7 @@ use mathlib.Core.Path.{_≡_}
 use mathlib.Core.List.{List}
 use lib.ListN.{length, take}
 use lib.Seq.{sets}
+use Rattle.base.specs.Limits.{memoryBytes}
 use Rattle.base.specs.declared.verdict.Verdict.the-variants.{Taken}
 use Rattle.base.specs.Verdict.{verdict}
 use Rattle.definition.specs.Setting.{Setting, settingOf}
@@ -31,6 +32,7 @@ settingOpened r stamps = settingOf (r .layout) (take (r .count) stamps)
 -- what opening a sheet promises: what is still to be written is all that the sheet leads to; filling is taken; the memory and the
 -- stamps are those of the sheet, or as they came
 pub record OpenPromise (sheet mem stamps : List ℕ) (r : SheetRun) (memThen stampsThen : List ℕ) : Type 0 where
+  pub size : memoryBytes ≡ length memThen
   pub fits : r .count ≤ length stampsThen
   pub output : textLeft (settingOpened r stampsThen) (r .transcript) memThen ≡ sheetOutput sheet
   pub taken : verdict (fillTests (settingOpened r stampsThen) (r .transcript) memThen (r .transcript .remaining)) ≡ Taken

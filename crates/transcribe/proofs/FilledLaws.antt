@@ -71,6 +71,7 @@ module _ (S : Setting) (t : Transcript) (mem : List ℕ) where
         judged = refl;
         bytes = w .bytes;
         written = w .ends;
+        fits = w .fits;
         transcript =
             ap (λ (z : State). record { state = z; steps = done .steps; budget = t .budget; remaining = done .remaining }) (f ∙ ap (λ (z : World). z .state) (w .world))
             ∙ ap (λ (z : ℕ). record { state = p .world .state; steps = z; budget = t .budget; remaining = done .remaining }) (w .count)
@@ -87,6 +88,7 @@ module _ (S : Setting) (t : Transcript) (mem : List ℕ) where
         judged = refl;
         bytes = ap (λ (z : Page). sets entry 0 (z .text)) (sym e);
         written = ap (λ (z : Page). 0 + length (z .text)) (sym e);
+        fits = omega arith;
         transcript = ap (transcriptAfter t) (sym e);
         memory = ap (λ (z : Page). z .world .memory) (sym e);
       }
@@ -125,6 +127,7 @@ module _ (S : Setting) (t : Transcript) (mem : List ℕ) where
         judged = refl;
         bytes = p .1 .1 ∙ ap (sets entry 0) (sym a);
         written = p .0 ∙ sym (zero-add (length (refusalLine r line))) ∙ ap (λ (z : List ℕ). 0 + length z) (sym a);
+        fits = let m = p .1 .0 in omega arith;
         transcript = refl;
         memory = refl;
       })
@@ -147,6 +150,7 @@ module _ (S : Setting) (t : Transcript) (mem : List ℕ) where
         bytes = q .bytes ∙ ap (λ (z : List ℕ). sets z start text) (h .1) ∙ ap (λ (z : ℕ). sets (sets entry 0 headerLine) z text) (h .0)
             ∙ sets-append entry 0 headerLine text;
         written = q .written ∙ ap (λ (z : ℕ). z + length text) (h .0) ∙ sym (length-append headerLine text) ∙ sym (zero-add (length (headerLine ++ text)));
+        fits = let f = q .fits in omega arith;
         transcript = q .transcript;
         memory = q .memory;
       })
@@ -166,7 +170,7 @@ module _ (S : Setting) (t : Transcript) (mem : List ℕ) where
         → PageFilled (pageBy S (length entry) t mem u) u t (record { transcript = t; written = 0; verdict = refused f }) mem entry entry 0
     refused-filled entry f e =
         subst (λ (z : Verdict). PageFilled (pageBy S (length entry) t mem z) z t (record { transcript = t; written = 0; verdict = refused f }) mem entry entry 0)
-        (sym e ∙ same) (record { judged = refl; bytes = refl; written = refl; transcript = refl; memory = refl })
+        (sym e ∙ same) (record { judged = refl; bytes = refl; written = refl; fits = omega arith; transcript = refl; memory = refl })
 
     pub taken-filled : (memThen entry exit : List ℕ) (r : Filled) → v ≡ taken → PageFilled (page (length entry) (t .remaining)) taken t r memThen entry exit 0
         → PageFilled (pageBy S (length entry) t mem u) u t r memThen entry exit 0
@@ -216,6 +220,7 @@ module _ (S : Setting) (t : Transcript) (mem : List ℕ) where
         judged = f .judged;
         bytes = f .bytes;
         written = f .written ∙ zero-add (length (p .text));
+        fits = f .fits;
         transcript = f .transcript;
         memory = f .memory;
         next = b .0

@@ -98,11 +98,12 @@ behind-twice text line p =
 -- a text that stands in the buffer, of a page that is known
 module _ (p : Page) (entry exit : List ℕ) (start filled n : ℕ) (w : World) (remaining : Remaining) where
   page-written : (text : List ℕ) → p ≡ record { text = text; steps = n; world = w; remaining = remaining } → Put entry exit start filled text
-      → PageWritten p entry exit start filled n w remaining
-  page-written text e q =
+      → filled ≤ length entry → PageWritten p entry exit start filled n w remaining
+  page-written text e q i =
       record {
         bytes = q .lies ∙ ap (λ (z : Page). sets entry start (z .text)) (sym e);
         ends = q .ends ∙ ap (λ (z : Page). start + length (z .text)) (sym e);
+        fits = i;
         count = ap (λ (z : Page). z .steps) (sym e);
         world = ap (λ (z : Page). z .world) (sym e);
         rest = ap (λ (z : Page). z .remaining) (sym e);
@@ -164,20 +165,20 @@ module _ (S : Setting) (start made budget : ℕ) (from : World) (entry : List �
     page-ends-full i =
         let l = page-length in
         let e = t .lands ∙ ap (behind (t .text)) (page-full S (length entry - filled) steps (budget - steps) w (omega arith)) in
-        page-written whole entry out start filled steps w Steps (t .text ++ []) e (rw append-nil (t .put))
+        page-written whole entry out start filled steps w Steps (t .text ++ []) e (rw append-nil (t .put)) (t .fits)
 
     -- the end's line
     pub page-ends-last : lineRoom ≤ length out - filled → (going : Course) → going ≡ course (w .state .halted) (w .state .time .clock) steps budget
-        → goesOn going ≡ false → (exit : List ℕ) (next : ℕ) → Put out exit filled next (lastText going steps (w .state .time .clock))
+        → goesOn going ≡ false → (exit : List ℕ) (next : ℕ) → Put out exit filled next (lastText going steps (w .state .time .clock)) → next ≤ length out
         → PageWritten whole entry exit start next steps w (lastRemaining going)
-    page-ends-last i going g f exit next p =
+    page-ends-last i going g f exit next p k =
         let l = page-length in
         let e = t .lands
         ∙ ap (behind (t .text))
         (page-course S (length entry - filled) steps budget w (omega arith)
         ∙ ap (byCourse steps w (furtherFrom S (length entry - filled) steps budget w)) (sym g)
         ∙ last-page steps w (furtherFrom S (length entry - filled) steps budget w) going f) in
-        page-written whole entry exit start next steps w (lastRemaining going) (t .text ++ lastText going steps (w .state .time .clock)) e (put-then (t .put) p)
+        page-written whole entry exit start next steps w (lastRemaining going) (t .text ++ lastText going steps (w .state .time .clock)) e (put-then (t .put) p) (omega arith)
 
     -- the stamps before the upcoming one are passed after a step too
     pub page-passed : w .state .halted ≡ false → (m : State) (bytes : List ℕ) (o : Outcome) → gives m bytes o ≡ stepOf S w
@@ -192,14 +193,14 @@ module _ (S : Setting) (start made budget : ℕ) (from : World) (entry : List �
 
 -- what the end's line leaves, by whether there is one
 module _ (going : Course) (c : Control) (steps : ℕ) (entry exit : List ℕ) (filled : ℕ) where
-  pub last-none : going ≡ Goes → LastLine going c steps entry entry filled (record { control = c; steps = steps; filled = filled; remaining = Steps })
-  last-none e = rw e (record { bytes = refl; ends = omega arith; control = refl; count = refl; rest = refl })
+  pub last-none : going ≡ Goes → filled ≤ length entry → LastLine going c steps entry entry filled (record { control = c; steps = steps; filled = filled; remaining = Steps })
+  last-none e i = rw e (record { bytes = refl; ends = omega arith; fits = i; control = refl; count = refl; rest = refl })
 
   pub last-end : (end : End) → going ≡ Stops end → (next : ℕ)
       → (next ≡ filled + length (endLine end steps (c .time .clock)))
       × ((next ≤ length entry) × (exit ≡ sets entry filled (endLine end steps (c .time .clock))))
       → LastLine going c steps entry exit filled (record { control = c; steps = steps; filled = next; remaining = Nothing })
-  last-end end e next p = rw e (record { bytes = p .1 .1; ends = p .0; control = refl; count = refl; rest = refl })
+  last-end end e next p = rw e (record { bytes = p .1 .1; ends = p .0; fits = p .1 .0; control = refl; count = refl; rest = refl })
 
 -- the end's line behind the lines before it makes the page
 module _ (S : Setting) (start made budget : ℕ) (from : World) (entry out rs saved mem : List ℕ) (c : Control) (steps filled upcoming : ℕ)
@@ -210,10 +211,11 @@ module _ (S : Setting) (start made budget : ℕ) (from : World) (entry out rs sa
       (world (withRegisters rs saved (r .control)) mem) (r .remaining)
   page-ends i going g f exit r l =
       let p = page-ends-last S start made budget from entry out (world (withRegisters rs saved c) mem) steps filled upcoming t
-      i going g f exit (r .filled) (record { ends = l .ends; lies = l .bytes }) in
+      i going g f exit (r .filled) (record { ends = l .ends; lies = l .bytes }) (l .fits) in
       record {
         bytes = p .bytes;
         ends = p .ends;
+        fits = p .fits;
         count = l .count ∙ p .count;
         world = ap (λ (z : Control). world (withRegisters rs saved z) mem) (l .control) ∙ p .world;
         rest = l .rest ∙ p .rest;

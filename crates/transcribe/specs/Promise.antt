@@ -1,5 +1,5 @@
 -- What a call that continues a transcript promises.
-use Prim.Native.Nat.{ℕ, _-_}
+use Prim.Native.Nat.{ℕ, _-_, _≤_}
 use mathlib.Core.List.{List, [], _∷_, _++_}
 use mathlib.Core.Path.{_≡_}
 use lib.ListN.{length}
@@ -55,6 +55,7 @@ module _ (S : Setting) where
     pub judged : r .verdict ≡ verdict (fillTests t mem (t .remaining))
     pub bytes : exit ≡ sets entry 0 (pageCall (length entry) t mem .text)
     pub written : r .written ≡ length (pageCall (length entry) t mem .text)
+    pub fits : r .written ≤ length entry
     pub transcript : r .transcript ≡ transcriptAfter t (pageCall (length entry) t mem)
     pub memory : memThen ≡ pageCall (length entry) t mem .world .memory
     pub next : textLeft t mem ≡ pageCall (length entry) t mem .text ++ textLeft (r .transcript) memThen

@@ -2,7 +2,7 @@
 ghost use mathlib.Core.Path.{_≡_};
 ghost use mathlib.Core.List.{[], _∷_};
 ghost use Prim.Native.Nat.{_+_, _≤_};
-ghost use lib.ListN.{length, drop};
+ghost use lib.ListN.{length, drop, set};
 ghost use lib.Seq.{sets};
 ghost use Rattle.lines.specs.Text.{tab};
 ghost use Rattle.transcript.specs.Transcript.{decimalBytes, hexByte, hexBytes, headerLine, stepLine, endLine, refusalLine};
@@ -16,20 +16,26 @@ pub struct Digits {
     pub start: usize,
 }
 
+// Puts a byte at an index, where there is room for it.
+pub fn set_byte(out: &mut [u8], at: usize, b: u8)
+    ensures { λ _. ⌜ now (out .exit) ≡ set (now (out .entry)) at b ⌝ }
+{
+    if at < out.len() {
+        out[at] = b;
+    }
+}
+
 // Puts a byte at an index, where there is room for it, and answers the next index.
 fn put_byte(out: &mut [u8], at: usize, b: u8) -> usize
     requires { ⌜ at ≤ 1000 ⌝ }
     ensures { λ r. ⌜ (r ≡ at + 1) × (now (out .exit) ≡ sets (now (out .entry)) at (b ∷ [])) ⌝ }
 {
-    if at < out.len() {
-        out[at] = b;
-        return at + 1;
-    }
+    set_byte(out, at, b);
     at + 1
 }
 
 // The digits of a decimal, from the last one back.
-fn decimal_digits(n: u64) -> Digits
+pub fn decimal_digits(n: u64) -> Digits
     ensures { λ r. ⌜ (drop (r .start) (r .text) ≡ decimalBytes n) × ((r .start ≤ 20) × (length (r .text) ≡ 20)) ⌝ }
 {
     let mut text = [0u8; 20];

@@ -78,12 +78,14 @@ fn lines(text: &[u8]) -> u64 {
     text.iter().filter(|&&byte| byte == b'\n').count() as u64
 }
 
-/// What the bench program writes. It may leave the rest of a sheet that is too long unread.
+/// What the bench program writes to standard output; what it says of a refused sheet is not compared.
+/// It may leave the rest of a sheet that is too long unread.
 fn transcript(program: &Path, sheet: &[u8]) -> Result<Vec<u8>, String> {
     let told = |error: std::io::Error| format!("{}: {error}", program.display());
     let mut child = Command::new(program)
         .stdin(Stdio::piped())
         .stdout(Stdio::piped())
+        .stderr(Stdio::null())
         .spawn()
         .map_err(told)?;
     if let Some(mut input) = child.stdin.take() {

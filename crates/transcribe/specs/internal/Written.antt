@@ -1,5 +1,5 @@
 -- What is written into a lent buffer, behind what is filled. No promise rests on it.
-use Prim.Native.Nat.{ℕ, _+_, _-_}
+use Prim.Native.Nat.{ℕ, _+_, _≤_}
 use mathlib.Core.List.{List, []}
 use mathlib.Core.Bool.{Bool, true, false}
 use mathlib.Core.Path.{_≡_}
@@ -24,6 +24,7 @@ use Rattle.transcribe.specs.Promise.{transcriptAfter}
 pub record PageWritten (p : Page) (entry exit : List ℕ) (start filled steps : ℕ) (w : World) (remaining : Remaining) : Type 0 where
   pub bytes : exit ≡ sets entry start (p .text)
   pub ends : filled ≡ start + length (p .text)
+  pub fits : filled ≤ length entry
   pub count : steps ≡ p .steps
   pub world : w ≡ p .world
   pub rest : remaining ≡ p .remaining
@@ -42,6 +43,7 @@ lastRemaining (Stops e) = Nothing
 pub record LastLine (going : Course) (c : Control) (steps : ℕ) (entry exit : List ℕ) (filled : ℕ) (r : StepsWritten) : Type 0 where
   pub bytes : exit ≡ sets entry filled (lastText going steps (c .time .clock))
   pub ends : r .filled ≡ filled + length (lastText going steps (c .time .clock))
+  pub fits : r .filled ≤ length entry
   pub control : r .control ≡ c
   pub count : r .steps ≡ steps
   pub rest : r .remaining ≡ lastRemaining going
@@ -56,5 +58,6 @@ pub record PageFilled (p : Page) (v : Verdict) (t : Transcript) (r : Filled) (me
   pub judged : r .verdict ≡ v
   pub bytes : exit ≡ sets entry start (p .text)
   pub written : r .written ≡ start + length (p .text)
+  pub fits : r .written ≤ length entry
   pub transcript : r .transcript ≡ transcriptAfter t p
   pub memory : memThen ≡ p .world .memory

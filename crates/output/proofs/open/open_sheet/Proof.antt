@@ -40,7 +40,7 @@ returns c =
     let u = c .unwritten in
     let e = sym (c .before .before .before .before .before .refusal .given .1) ∙ c .before .before .before .before .before .before .before .read-sheet .ensures .result in
     subst (λ (z : Transcript). OpenPromise (now (a .text)) (now (a .mem)) (now (a .stamps)) (record { layout = c .before .before .before .no-layout .result; count = 0; transcript = z }) (now (a .mem)) (now (a .stamps)))
-    (sym (u .ensures .0)) (opened-refused (now (a .text)) (now (a .mem)) (now (a .stamps)) _ _ e (c .before .before .before .no-layout .result) (u .result .state) 0)
+    (sym (u .ensures .0)) (opened-refused (now (a .text)) (now (a .mem)) (now (a .stamps)) _ _ e (c .before .unwritten-arg2 .given .0) (c .before .before .before .no-layout .result) (u .result .state) 0)
 
 returns-2 : tie.Need-returns-2
 returns-2 c =

@@ -1,5 +1,6 @@
 use mathlib.Core.List.{[]}
 use Rattle.transcribe.proofs.PageLaws.{last-none, last-end}
+use native.Mathlib.Omega.{arith}
 use borrow.Author.Needs.{needs}
 use Rattle.transcribe.proofs.steps.last_line.Statement.{statement}
 use Rattle.transcribe.proofs.steps.last_line.Tie as tie
@@ -14,7 +15,7 @@ put-end-requires : tie.Need-put-end-requires
 put-end-requires c κs = search needs
 
 returns : tie.Need-returns
-returns c = last-none _ _ _ _ [] _ (c .enum-told .given .1)
+returns c = last-none _ _ _ _ [] _ (c .enum-told .given .1) (let room = c .before .before .before .pre in omega arith)
 
 same-length : tie.Need-same-length
 same-length c = search needs

@@ -1,0 +1,8 @@
+// The sentence that says why a sheet is refused, for the person who wrote it.
+mod fence;
+mod line;
+mod part;
+mod reason;
+pub mod sentence;
+mod text;
+mod timetable;
