@@ -21,7 +21,7 @@ use Rattle.embed.specs.Kept.{unlessRefused}
 unfoldable pub stageOf : ℕ → Remaining
 stageOf n = if eqb n 0 then Header else if eqb n 1 then Steps else Nothing
 
--- the number of what is still to be written; no page of a stage leaves a refusal's line
+-- the number of what is still to be written: a stage above 2, too, is handed back as 2; 3 is a sheet's refusal, which no stage says
 abbrev pub stageNumber : Remaining → ℕ
 stageNumber Header = 0
 stageNumber Steps = 1

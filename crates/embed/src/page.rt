@@ -1,4 +1,4 @@
-// A run's transcript, page by page.
+// A run's transcript, page by page. The call answers 0, or the number of the refusal, which leaves all that is lent as it came.
 ghost use mathlib.Core.Path.{_≡_};
 ghost use Rattle.numbers.specs.State.{numbers};
 ghost use Rattle.embed.specs.Page.{stageOf, stageNumber, pageRoom, TranscribeReturns};
@@ -34,7 +34,8 @@ fn stage_number(remaining: Remaining) -> u8
     }
 }
 
-// Continues a run, and fills the buffer with the next lines of its transcript: the stage and the steps made so far tell where it stands.
+// Continues a run and fills the buffer with the next lines of its transcript, as long as there is room for one. The stage and the steps made
+// so far tell where it stands.
 #[no_mangle]
 pub extern "C" fn enclave_transcribe(
     registers: &mut [u16; 16],
