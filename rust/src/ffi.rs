@@ -66,6 +66,31 @@ extern "C" {
         steps: *mut u64,
     ) -> u8;
 
+    /// The next lines of a run's transcript, as many as there is room for, and how many bytes they
+    /// are. `stage` is 0 where the header comes next, 1 where steps do, else nothing. Refusals 1 to 5.
+    ///
+    /// # Safety
+    ///
+    /// As of the module; `memory` points to `memory_size` bytes, `stamps` to `count` stamps, `out` to
+    /// `out_size` bytes.
+    pub fn enclave_transcribe(
+        registers: *mut [u16; 16],
+        saved: *mut [u16; 16],
+        control: *mut [u16; 5],
+        time: *mut [u64; 3],
+        memory: *mut u8,
+        memory_size: usize,
+        layout: *const [u16; 5],
+        stamps: *const u64,
+        count: usize,
+        budget: u64,
+        stage: *mut u8,
+        steps: *mut u64,
+        out: *mut u8,
+        out_size: usize,
+        written: *mut u64,
+    ) -> u8;
+
     /// What an instruction at `from` may do to the byte at `address`: execute 1, read 2, write 4,
     /// or a sum of these. Refusal 2.
     ///
