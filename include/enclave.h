@@ -6,9 +6,10 @@
  * them at the same time on different machines; two calls on one machine or one memory must not run at the same time.
  *
  * Each function answers 0, or the number of the refusal (enum enclave_refusal), and a refusal leaves everything that was lent as it
- * came, but for the line that the sheet reader tells. Any value of any field is either meant or refused. What a caller owes is what C
- * always asks: a pointer points to as much as its type or the size beside it says, and no two parts that a call is lent overlap,
- * unless it only reads them. Where a size is 0, the pointer must still not be null.
+ * came, but for the line that the sheet reader tells; enclave_fault alone answers a rule of the layout (enum enclave_rule). Any value of
+ * any field is either meant or refused. What a caller owes is what C always asks: a pointer points to as much as its type or the size
+ * beside it says, and no two parts that a call is lent overlap, unless it only reads them. Where a size is 0, the pointer must still not
+ * be null.
  */
 #ifndef ENCLAVE_H
 #define ENCLAVE_H
@@ -56,6 +57,15 @@ enum enclave_refusal {
     ENCLAVE_LINE = 7,      /* a line of the sheet can't be read */
     ENCLAVE_SHEET = 8,     /* the sheet has more than 32,768 bytes */
     ENCLAVE_WORD = 9       /* no such instruction */
+};
+
+/* The rules of a layout: what the first one that is broken forbids. */
+enum enclave_rule {
+    ENCLAVE_UNBROKEN = 0,
+    ENCLAVE_ODD = 1,     /* an address is odd */
+    ENCLAVE_EMPTY = 2,   /* a start is not below its end */
+    ENCLAVE_OVERLAP = 3, /* code and data have a byte in common */
+    ENCLAVE_SERVICE = 4  /* the service address is in code or data */
 };
 
 /*
@@ -207,6 +217,7 @@ uint8_t enclave_transcribe(uint16_t registers[16], uint16_t saved[16], uint16_t 
                            uint8_t *memory, size_t memory_size, const uint16_t layout[5], const uint64_t *stamps,
                            size_t count, uint64_t budget, uint8_t *stage, uint64_t *steps, uint8_t *out,
                            size_t out_size, uint64_t *written);
+uint8_t enclave_fault(const uint16_t layout[5]);
 uint8_t enclave_access(const uint16_t layout[5], uint16_t from, uint16_t address, uint8_t *rights);
 uint8_t enclave_read(uint16_t first, uint16_t second, uint16_t fields[4], uint8_t *length);
 uint8_t enclave_write(const uint16_t fields[4], uint16_t *first, uint16_t *second, uint8_t *length);
@@ -256,6 +267,12 @@ static inline enum enclave_refusal enclave_machine_transcribe(struct enclave_mac
     return (enum enclave_refusal)enclave_transcribe(m->registers, m->saved, m->control, m->time, memory, size,
                                                     layout->addresses, stamps, count, t->budget, &t->stage, &t->steps,
                                                     out, out_size, written);
+}
+
+/* The first rule that a layout breaks, in the order of their numbers, or ENCLAVE_UNBROKEN, where it is accepted. Nothing is refused. */
+static inline enum enclave_rule enclave_layout_fault(const struct enclave_layout *layout)
+{
+    return (enum enclave_rule)enclave_fault(layout->addresses);
 }
 
 /* What an instruction at one address may do to the byte at another: a sum of enclave_right. Refusal 2. */

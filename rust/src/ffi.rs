@@ -1,7 +1,7 @@
 //! The exported functions as they are: numbers and lent memory, with no type that keeps them right.
 //! `include/enclave.h` says what each field means.
 //!
-//! Each function answers 0 or the number of a [`Refusal`](crate::Refusal), which leaves everything
+//! Each function but `enclave_fault` answers 0 or the number of a [`Refusal`](crate::Refusal), which leaves everything
 //! that was lent as it came, but for the line that the sheet reader tells. Any number in any field is
 //! either meant or refused.
 //!
@@ -90,6 +90,13 @@ extern "C" {
         out_size: usize,
         written: *mut u64,
     ) -> u8;
+
+    /// The number of the first rule that a layout breaks, 0 for none. Nothing is refused.
+    ///
+    /// # Safety
+    ///
+    /// As of the module.
+    pub fn enclave_fault(layout: *const [u16; 5]) -> u8;
 
     /// What an instruction at `from` may do to the byte at `address`: execute 1, read 2, write 4,
     /// or a sum of these. Refusal 2.

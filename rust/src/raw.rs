@@ -142,6 +142,13 @@ impl Numbers {
     }
 }
 
+/// The number of the first rule that a layout breaks, 1 to 4, or 0. Nothing is refused.
+#[must_use]
+pub fn fault(layout: &Addresses) -> u8 {
+    // SAFETY: as above.
+    unsafe { ffi::enclave_fault(layout) }
+}
+
 /// What an instruction at `from` may do to the byte at `address`: execute 1, read 2, write 4, or a
 /// sum of those.
 pub fn access(layout: &Addresses, from: u16, address: u16, rights: &mut u8) -> u8 {
