@@ -6,9 +6,10 @@
  * them at the same time on different machines; two calls on one machine or one memory must not run at the same time.
  *
  * Each function answers 0, or the number of the refusal (enum enclave_refusal), and a refusal leaves everything that was lent as it
- * came, but for the line that the sheet reader tells. Any value of any field is either meant or refused. What a caller owes is what C
- * always asks: a pointer points to as much as its type or the size beside it says, and no two parts that a call is lent overlap,
- * unless it only reads them. Where a size is 0, the pointer must still not be null.
+ * came, but for the line that the sheet reader tells; enclave_fault alone answers a rule of the layout (enum enclave_rule). Any value of
+ * any field is either meant or refused. What a caller owes is what C always asks: a pointer points to as much as its type or the size
+ * beside it says, and no two parts that a call is lent overlap, unless it only reads them. Where a size is 0, the pointer must still not
+ * be null.
  */
 #ifndef ENCLAVE_H
 #define ENCLAVE_H
@@ -26,12 +27,16 @@
 extern "C" {
 #endif
 
-/* Memory has this many bytes; a sheet has at most so many bytes, a timetable so many stamps, a run so many steps. */
+/*
+ * Memory has this many bytes; a sheet has at most so many bytes, a timetable so many stamps, a run so many steps, a line of a transcript
+ * so many bytes.
+ */
 enum {
     ENCLAVE_MEMORY_SIZE = 65536,
     ENCLAVE_SHEET_SIZE = 32768,
     ENCLAVE_STAMPS = 4096,
-    ENCLAVE_BUDGET = 1000000
+    ENCLAVE_BUDGET = 1000000,
+    ENCLAVE_LINE_SIZE = 64
 };
 
 /* The last stamp, and the last clock value at which a machine steps: 2^62. */
@@ -52,6 +57,15 @@ enum enclave_refusal {
     ENCLAVE_LINE = 7,      /* a line of the sheet can't be read */
     ENCLAVE_SHEET = 8,     /* the sheet has more than 32,768 bytes */
     ENCLAVE_WORD = 9       /* no such instruction */
+};
+
+/* The rules of a layout: what the first one that is broken forbids. */
+enum enclave_rule {
+    ENCLAVE_UNBROKEN = 0,
+    ENCLAVE_ODD = 1,     /* an address is odd */
+    ENCLAVE_EMPTY = 2,   /* a start is not below its end */
+    ENCLAVE_OVERLAP = 3, /* code and data have a byte in common */
+    ENCLAVE_SERVICE = 4  /* the service address is in code or data */
 };
 
 /*
@@ -88,6 +102,13 @@ enum enclave_end {
     ENCLAVE_END_HALTED = 'H',
     ENCLAVE_END_CLOCK = 'T', /* the clock went above 2^62 */
     ENCLAVE_END_SPENT = 'S'  /* the budget is spent */
+};
+
+/* What comes next on a transcript. Any other value is as ENCLAVE_COMPLETE. */
+enum enclave_stage {
+    ENCLAVE_HEADER_NEXT = 0,
+    ENCLAVE_STEPS_NEXT = 1,
+    ENCLAVE_COMPLETE = 2 /* nothing: the line of the end is written */
 };
 
 /* What an instruction may do to a byte: a sum of these. */
@@ -176,6 +197,13 @@ struct enclave_setup {
     uint8_t memory[ENCLAVE_MEMORY_SIZE];
 };
 
+/* How far a transcript has come. It begins with the budget of the run and 0 in the other fields. */
+struct enclave_transcript {
+    uint64_t budget; /* of all the parts together */
+    uint64_t steps;  /* made so far */
+    uint8_t stage;   /* enum enclave_stage */
+};
+
 /* The functions of the library. The inline functions below take the structs apart for them. */
 uint8_t enclave_start(uint16_t registers[16], uint16_t saved[16], uint16_t control[5], uint64_t time[3],
                       const uint8_t *memory, size_t size);
@@ -185,6 +213,11 @@ uint8_t enclave_step(uint16_t registers[16], uint16_t saved[16], uint16_t contro
 uint8_t enclave_run(uint16_t registers[16], uint16_t saved[16], uint16_t control[5], uint64_t time[3],
                     uint8_t *memory, size_t size, const uint16_t layout[5], const uint64_t *stamps, size_t count,
                     uint64_t budget, uint8_t *end, uint64_t *steps);
+uint8_t enclave_transcribe(uint16_t registers[16], uint16_t saved[16], uint16_t control[5], uint64_t time[3],
+                           uint8_t *memory, size_t memory_size, const uint16_t layout[5], const uint64_t *stamps,
+                           size_t count, uint64_t budget, uint8_t *stage, uint64_t *steps, uint8_t *out,
+                           size_t out_size, uint64_t *written);
+uint8_t enclave_fault(const uint16_t layout[5]);
 uint8_t enclave_access(const uint16_t layout[5], uint16_t from, uint16_t address, uint8_t *rights);
 uint8_t enclave_read(uint16_t first, uint16_t second, uint16_t fields[4], uint8_t *length);
 uint8_t enclave_write(const uint16_t fields[4], uint16_t *first, uint16_t *second, uint8_t *length);
@@ -216,6 +249,30 @@ static inline enum enclave_refusal enclave_machine_run(struct enclave_machine *m
 {
     return (enum enclave_refusal)enclave_run(m->registers, m->saved, m->control, m->time, memory, size,
                                              layout->addresses, stamps, count, budget, end, steps);
+}
+
+/*
+ * The next part of a run's transcript: as many whole lines as there is room for, the machine going on with each line of a step. A line is
+ * begun only where ENCLAVE_LINE_SIZE bytes are free, so out is lent at least as many; where it is shorter, no line is written and no step
+ * made. written is the number of bytes; those behind them stay as they were. The transcript is whole once its stage is ENCLAVE_COMPLETE,
+ * and a further call writes no line. Parts of any size give the same bytes. Refusals 1 to 5; a clock above 2^62 is not refused, but ends
+ * the transcript by ENCLAVE_END_CLOCK.
+ */
+static inline enum enclave_refusal enclave_machine_transcribe(struct enclave_machine *m, uint8_t *memory, size_t size,
+                                                              const struct enclave_layout *layout,
+                                                              const uint64_t *stamps, size_t count,
+                                                              struct enclave_transcript *t, uint8_t *out,
+                                                              size_t out_size, uint64_t *written)
+{
+    return (enum enclave_refusal)enclave_transcribe(m->registers, m->saved, m->control, m->time, memory, size,
+                                                    layout->addresses, stamps, count, t->budget, &t->stage, &t->steps,
+                                                    out, out_size, written);
+}
+
+/* The first rule that a layout breaks, in the order of their numbers, or ENCLAVE_UNBROKEN, where it is accepted. Nothing is refused. */
+static inline enum enclave_rule enclave_layout_fault(const struct enclave_layout *layout)
+{
+    return (enum enclave_rule)enclave_fault(layout->addresses);
 }
 
 /* What an instruction at one address may do to the byte at another: a sum of enclave_right. Refusal 2. */

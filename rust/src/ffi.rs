@@ -1,7 +1,7 @@
 //! The exported functions as they are: numbers and lent memory, with no type that keeps them right.
 //! `include/enclave.h` says what each field means.
 //!
-//! Each function answers 0 or the number of a [`Refusal`](crate::Refusal), which leaves everything
+//! Each function but `enclave_fault` answers 0 or the number of a [`Refusal`](crate::Refusal), which leaves everything
 //! that was lent as it came, but for the line that the sheet reader tells. Any number in any field is
 //! either meant or refused.
 //!
@@ -65,6 +65,38 @@ extern "C" {
         end: *mut u8,
         steps: *mut u64,
     ) -> u8;
+
+    /// The next lines of a run's transcript, as many as there is room for, and how many bytes they
+    /// are. `stage` is 0 where the header comes next, 1 where steps do, else nothing. Refusals 1 to 5.
+    ///
+    /// # Safety
+    ///
+    /// As of the module; `memory` points to `memory_size` bytes, `stamps` to `count` stamps, `out` to
+    /// `out_size` bytes.
+    pub fn enclave_transcribe(
+        registers: *mut [u16; 16],
+        saved: *mut [u16; 16],
+        control: *mut [u16; 5],
+        time: *mut [u64; 3],
+        memory: *mut u8,
+        memory_size: usize,
+        layout: *const [u16; 5],
+        stamps: *const u64,
+        count: usize,
+        budget: u64,
+        stage: *mut u8,
+        steps: *mut u64,
+        out: *mut u8,
+        out_size: usize,
+        written: *mut u64,
+    ) -> u8;
+
+    /// The number of the first rule that a layout breaks, 0 for none. Nothing is refused.
+    ///
+    /// # Safety
+    ///
+    /// As of the module.
+    pub fn enclave_fault(layout: *const [u16; 5]) -> u8;
 
     /// What an instruction at `from` may do to the byte at `address`: execute 1, read 2, write 4,
     /// or a sum of these. Refusal 2.

@@ -18,7 +18,7 @@ impl Layout {
     ///
     /// # Errors
     ///
-    /// Refusal *fence* where a rule is broken.
+    /// Refusal *fence* where a rule is broken; [`Layout::fault`] tells which.
     pub fn new(code: Range<u16>, data: Range<u16>, service: u16) -> Result<Layout, Refusal> {
         let addresses = [code.start, code.end, data.start, data.end, service];
         ask(&addresses, 0, 0)?;

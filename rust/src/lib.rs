@@ -1,6 +1,6 @@
 //! A verified execution model of a 16-bit controller with one enclave module whose interrupts are
-//! padded: start, step and run a machine, read and write one instruction, ask what a layout allows,
-//! read a bench sheet.
+//! padded: start, step and run a machine, write the transcript of a run, read and write one
+//! instruction, ask what a layout allows, read a bench sheet.
 //!
 //! The work is done by a static library that is built from the proved machine; this crate gives it
 //! types, so that most of what the library refuses cannot be said:
@@ -20,7 +20,7 @@
 //! `Send` and `Sync` by construction, and threads may run different machines at the same time. The
 //! library allocates nothing. In this crate only [`Memory`], [`Timetable`], [`Setup`] and
 //! [`raw::Places`] own memory from the heap, and [`Machine::from_fields`] takes a memory from there
-//! while it asks; start, step and run allocate nothing.
+//! while it asks; start, step, run and a transcript allocate nothing.
 //!
 //! The static library is looked for in `target/staticlib` of the repository, where `rt staticlib
 //! embed` writes it, or in the folder that the environment variable `ENCLAVE_LIB_DIR` names, by its
@@ -58,10 +58,12 @@ mod outcome;
 pub mod raw;
 mod refusal;
 mod register;
+mod rule;
 mod sheet;
 mod state;
 mod status;
 mod timetable;
+mod transcript;
 
 pub use access::Rights;
 pub use budget::Budget;
@@ -73,9 +75,11 @@ pub use memory::{Memory, MEMORY_SIZE};
 pub use outcome::{Cause, End, Kind};
 pub use refusal::Refusal;
 pub use register::Register;
+pub use rule::Rule;
 pub use sheet::{Setup, SheetRefusal};
 pub use status::Status;
 pub use timetable::{Timetable, LAST_CLOCK, MOST_STAMPS};
+pub use transcript::Transcript;
 
 /// The version of this crate and of `include/enclave.h`, which are one; `CHANGELOG.md` says what each
 /// brought.

@@ -3,7 +3,7 @@
 use std::num::NonZeroU64;
 
 use crate::memory::zeros;
-use crate::raw::Numbers;
+use crate::raw::{Numbers, Progress};
 use crate::{
     Budget, End, Kind, Layout, MachineFields, Refusal, Register, SavedContext, Status, Timetable,
     MEMORY_SIZE,
@@ -80,6 +80,20 @@ impl Machine {
         Refusal::taken(answer)?;
         let end = End::told(end);
         Ok(Stop { end, steps })
+    }
+
+    // The next lines of a transcript, and the library's answer.
+    pub(crate) fn transcribe(
+        &mut self,
+        memory: &mut [u8; MEMORY_SIZE],
+        timetable: &Timetable<'_>,
+        progress: &mut Progress,
+        out: &mut [u8],
+        written: &mut u64,
+    ) -> u8 {
+        let (addresses, stamps) = (&self.layout.addresses, timetable.stamps());
+        self.state
+            .transcribe(memory, addresses, stamps, progress, out, written)
     }
 
     /// The machine of these fields. The library decides, on a memory that is taken from the heap for

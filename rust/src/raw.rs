@@ -23,6 +23,17 @@ pub struct Numbers {
     pub time: [u64; 3],
 }
 
+/// How far a transcript has come. It begins with the run's budget and 0 in the other fields.
+#[derive(Clone, Debug, Default, PartialEq, Eq, Hash)]
+pub struct Progress {
+    /// The budget of the whole run.
+    pub budget: u64,
+    /// How many steps were made so far.
+    pub steps: u64,
+    /// What comes next: 0 the header, 1 steps, any other value nothing.
+    pub stage: u8,
+}
+
 // In each function the pointers come from references to what their types say, exclusive ones where
 // the library writes, so what they point to is apart; a size beside a pointer is its slice's.
 impl Numbers {
@@ -96,6 +107,46 @@ impl Numbers {
             )
         }
     }
+
+    /// The next lines of a run's transcript, as many as `out` has room for: how far it has come, and
+    /// how many bytes were written.
+    pub fn transcribe(
+        &mut self,
+        memory: &mut [u8],
+        layout: &Addresses,
+        stamps: &[u64],
+        progress: &mut Progress,
+        out: &mut [u8],
+        written: &mut u64,
+    ) -> u8 {
+        // SAFETY: as above.
+        unsafe {
+            ffi::enclave_transcribe(
+                &raw mut self.registers,
+                &raw mut self.saved,
+                &raw mut self.control,
+                &raw mut self.time,
+                memory.as_mut_ptr(),
+                memory.len(),
+                layout,
+                stamps.as_ptr(),
+                stamps.len(),
+                progress.budget,
+                &raw mut progress.stage,
+                &raw mut progress.steps,
+                out.as_mut_ptr(),
+                out.len(),
+                written,
+            )
+        }
+    }
+}
+
+/// The number of the first rule that a layout breaks, 1 to 4, or 0. Nothing is refused.
+#[must_use]
+pub fn fault(layout: &Addresses) -> u8 {
+    // SAFETY: as above.
+    unsafe { ffi::enclave_fault(layout) }
 }
 
 /// What an instruction at `from` may do to the byte at `address`: execute 1, read 2, write 4, or a

@@ -1,4 +1,4 @@
-//! Start, step and run allocate nothing, with an array for memory and a borrowed timetable; to restore
+//! Start, step, run and a transcript allocate nothing, with an array for memory and a borrowed timetable; to restore
 //! a machine a memory is taken from the heap, once.
 
 use std::alloc::{GlobalAlloc, Layout as Block, System};
@@ -40,7 +40,7 @@ fn layout() -> Layout {
     Layout::new(0x8000..0x8008, 0x8100..0x8104, 0x4500).unwrap()
 }
 
-// Starts, steps and runs a machine of NOPs.
+// Starts, steps, runs and transcribes a machine of NOPs.
 #[expect(
     clippy::large_stack_arrays,
     reason = "nothing is to come from the heap"
@@ -56,6 +56,8 @@ fn work() {
     machine.step(&mut memory, &timetable).unwrap();
     let budget = Budget::new(1000).unwrap();
     machine.run(&mut memory, &timetable, budget).unwrap();
+    let mut lines = machine.transcript(&mut memory, &timetable, budget);
+    assert!(lines.fill(&mut [0; 4096]) > 0);
 }
 
 #[test]

@@ -52,6 +52,18 @@ pub fn worked_sheet(name: &str) -> Vec<u8> {
     sheets_file(&format!("{name}.sheet"))
 }
 
+/// The names of all worked sheets.
+pub fn worked_sheets() -> Vec<String> {
+    let folder = concat!(env!("CARGO_MANIFEST_DIR"), "/../sheets");
+    let files = std::fs::read_dir(folder).unwrap();
+    let names = files.map(|file| file.unwrap().file_name().into_string().unwrap());
+    let mut names: Vec<String> = names
+        .filter_map(|name| name.strip_suffix(".sheet").map(String::from))
+        .collect();
+    names.sort();
+    names
+}
+
 /// The transcript of a worked sheet that the separate model wrote.
 pub fn model_transcript(name: &str) -> String {
     String::from_utf8(sheets_file(&format!("{name}.transcript"))).unwrap()
