@@ -1,9 +1,9 @@
 /*
  * The machine for programs in C: a 16-bit controller with one enclave module whose interrupts are padded.
  *
- * Link with target/staticlib/libembed.a, which is for x86-64. It needs only memset, from the C library. There is no global state and no
- * allocation: all that a function works on is lent by the caller, so the functions are thread-safe by construction. Threads may call
- * them at the same time on different machines; two calls on one machine or one memory must not run at the same time.
+ * Link with target/staticlib/libembed.a, which is for x86-64. It needs only memcpy and memset, from the C library. There is no global
+ * state and no allocation: all that a function works on is lent by the caller, so the functions are thread-safe by construction. Threads
+ * may call them at the same time on different machines; two calls on one machine or one memory must not run at the same time.
  *
  * Each function answers 0, or the number of the refusal (enum enclave_refusal), and a refusal leaves everything that was lent as it
  * came, but for the line that the sheet reader tells; enclave_fault alone answers a rule of the layout (enum enclave_rule). Any value of
@@ -256,7 +256,7 @@ static inline enum enclave_refusal enclave_machine_run(struct enclave_machine *m
  * begun only where ENCLAVE_LINE_SIZE bytes are free, so out is lent at least as many; where it is shorter, no line is written and no step
  * made. written is the number of bytes; those behind them stay as they were. The transcript is whole once its stage is ENCLAVE_COMPLETE,
  * and a further call writes no line. Parts of any size give the same bytes. Refusals 1 to 5; a clock above 2^62 is not refused, but ends
- * the transcript by ENCLAVE_END_CLOCK.
+ * the transcript by ENCLAVE_END_CLOCK. At ENCLAVE_COMPLETE nothing is tested or refused; a stage above it comes back as ENCLAVE_COMPLETE.
  */
 static inline enum enclave_refusal enclave_machine_transcribe(struct enclave_machine *m, uint8_t *memory, size_t size,
                                                               const struct enclave_layout *layout,

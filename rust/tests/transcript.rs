@@ -194,11 +194,11 @@ fn transcribe(lent: &mut Lent, progress: &mut Progress) -> (u8, [u8; 100], u64) 
     (answer, out, written)
 }
 
-// This edit of a fresh machine is refused, in each stage, and nothing is altered.
+// This edit of a fresh machine is refused wherever a step remains, and nothing is altered.
 fn refused(number: u8, edit: impl Fn(&mut Lent)) {
     let mut lent = Lent::fresh();
     edit(&mut lent);
-    for stage in [0, 1, 2, 255] {
+    for stage in [0, 1] {
         let progress = Progress {
             budget: lent.budget,
             steps: 3,
@@ -234,7 +234,11 @@ fn stage_above_2_is_complete() {
         let mut moving = progress.clone();
         let answer = transcribe(&mut lent, &mut moving);
         assert_eq!(answer, (0, [0xAA; 100], 0));
-        assert_eq!((moving, lent), (progress, before));
+        let complete = Progress {
+            stage: 2,
+            ..progress
+        };
+        assert_eq!((moving, lent), (complete, before));
     }
 }
 

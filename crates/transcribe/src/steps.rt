@@ -6,13 +6,16 @@ ghost use lib.ListN.{length};
 ghost use lib.Seq.{sets};
 ghost use Rattle.definition.specs.Setting.{settingOf};
 ghost use Rattle.definition.specs.State.{world};
+ghost use Rattle.definition.specs.Interrupt.{gives};
+ghost use Rattle.definition.specs.Run.{stepOf};
 ghost use Rattle.definition.specs.Calls.{timetable};
 ghost use Rattle.act.specs.Control.{withRegisters};
 ghost use Rattle.transcript.specs.Transcript.{stepLine, endLine};
 ghost use Rattle.transcribe.specs.Transcribe.{lineRoom, pageFrom};
 ghost use Rattle.transcribe.specs.internal.Course.{course};
 ghost use Rattle.transcribe.specs.internal.Written.{PageWritten, LastLine};
-ghost use Rattle.base.specs.Limits.{mostBudget};
+ghost use Rattle.base.specs.Limits.{lastClock, mostBudget};
+ghost use Rattle.clock.specs.Upcoming.{IsUpcoming};
 use crate::progress::Remaining;
 use act::control::Control;
 use base::limits::LAST_CLOCK;
@@ -20,8 +23,14 @@ use clock::time::find_upcoming;
 use clock::time::skip_passed;
 use definition::answer::End;
 use definition::answer::Outcome;
-use inplace::in_place::one_step;
+use fast::steps::fast_steps;
+use inplace::in_place::InPlaceStep;
+use inplace::in_place::after_fast;
+use inplace::in_place::fast_until;
+use inplace::in_place::put_back;
 use layout::sections::Layout;
+use step::step::is_held;
+use step::step::take_step;
 use transcript::line::end_line;
 use transcript::line::step_line;
 
@@ -113,6 +122,48 @@ fn last_line(
     }
 }
 
+// The step of a line, fast if it can be. It is `one_step` once more: with two callers that one is not inlined into a step call, which then
+// takes half as long again (docs/DECISIONS.md, *The loop over step*).
+fn line_step(
+    control: Control,
+    registers: &mut [u16; 16],
+    saved: &mut [u16; 16],
+    mem: &mut [u8],
+    layout: Layout,
+    stamps: &[u64],
+    upcoming: usize,
+) -> InPlaceStep
+    ensures { λ r. ⌜ (timetable (now (stamps .entry)) ≡ true → control .time .clock ≤ lastClock → IsUpcoming (now (stamps .entry)) (control .time .clock) upcoming → gives (withRegisters (now (registers .exit)) (now (saved .exit)) (r .control)) (now (mem .exit)) (r .outcome) ≡ stepOf (settingOf layout (now (stamps .entry))) (world (withRegisters (now (registers .entry)) (now (saved .entry)) control) (now (mem .entry)))) ⌝ }
+{
+    let context = control.context;
+    let clock = control.time.clock;
+    let until = fast_until(control, registers[2], stamps, upcoming);
+    let burst = fast_steps(
+        registers,
+        control.previous,
+        clock,
+        is_held(context),
+        mem,
+        layout,
+        until,
+        1,
+    );
+    if burst.steps > 0 {
+        return InPlaceStep {
+            control: after_fast(control, burst, saved),
+            outcome: Outcome::Ran,
+        };
+    }
+    let m = control.state(*registers, *saved);
+    let done = take_step(m, mem, layout, stamps, upcoming);
+    let next = done.state;
+    let outcome = done.outcome;
+    InPlaceStep {
+        control: put_back(next, registers, saved),
+        outcome: outcome,
+    }
+}
+
 // The lines of a run, from where it stands, behind what is filled. The index of the upcoming stamp goes along with the clock.
 pub fn write_steps(
     control: Control,
@@ -138,7 +189,7 @@ pub fn write_steps(
         let Course::Goes = going else {
             return last_line(current, steps, out, filled, going);
         };
-        let done = one_step(current, registers, saved, mem, layout, stamps, upcoming);
+        let done = line_step(current, registers, saved, mem, layout, stamps, upcoming);
         let next = done.control;
         let kind = done.outcome;
         steps += 1;

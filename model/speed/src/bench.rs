@@ -26,7 +26,7 @@ pub fn rows(bench: &Path) -> Result<String, String> {
             "no bench program: build it with rt check bench, or name it with --bench".into(),
         );
     }
-    let sheet = sheet(&plain(), STEPS);
+    let sheet = sheet(&plain(), std::iter::empty(), STEPS);
     let mut ours = Command::new(bench);
     let mut theirs = Command::new(std::env::current_exe().map_err(|error| error.to_string())?);
     theirs.arg(MODEL_BENCH);
@@ -39,9 +39,32 @@ pub fn rows(bench: &Path) -> Result<String, String> {
     let row = lines_row(&mut ours, &mut theirs, &sheet, lines as f64)?;
     let second = 1e3 / row.library;
     Ok(format!(
-        "{}\nbench: {second:.1} million lines a second; memory {our_memory} kB, model's {their_memory} kB",
-        table::line(&row)
+        "{}\nbench: {second:.1} million lines a second; memory {our_memory} kB, model's {their_memory} kB\n{}",
+        table::line(&row),
+        stamps_rows(&mut ours, lines as f64)?
     ))
+}
+
+/// A line with many stamps by a line with none: the best rounds, taken in turn. A sheet has room for 4,096 stamps of at most four digits
+/// and for some 3,200 of seven; the clock goes to about 1,600,000.
+fn stamps_rows(ours: &mut Command, lines: f64) -> Result<String, String> {
+    let timetables: [(&str, Vec<u64>); 4] = [
+        ("no stamps", Vec::new()),
+        ("4,096 stamps, passed at the start", (1..=4096).collect()),
+        ("3,200 stamps, passed all along", (1..=3200).map(|i| i * 500).collect()),
+        ("3,200 stamps, all ahead", (0..3200).map(|i| 9_000_000 + i).collect()),
+    ];
+    let mut best = [f64::MAX; 4];
+    for _ in 0..3 * ROUNDS {
+        for (best, (_, stamps)) in best.iter_mut().zip(&timetables) {
+            let sheet = sheet(&plain(), stamps.iter().copied(), STEPS);
+            *best = best.min(child::time(ours, &sheet)?.as_secs_f64() * 1e9 / lines);
+        }
+    }
+    let rows = timetables.iter().zip(best).map(|((what, _), time)| {
+        format!("bench line, {what}: {time:.1} ns, {:.2} times that without", time / best[0])
+    });
+    Ok(rows.collect::<Vec<_>>().join("\n"))
 }
 
 /// The best rounds of both programs.

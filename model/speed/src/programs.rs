@@ -84,12 +84,15 @@ fn memory(words: &[(u16, u16)]) -> Vec<u8> {
     memory
 }
 
-/// The bench sheet of a program.
-pub fn sheet(words: &[(u16, u16)], budget: u64) -> Vec<u8> {
+/// The bench sheet of a program and a timetable.
+pub fn sheet(words: &[(u16, u16)], stamps: impl Iterator<Item = u64>, budget: u64) -> Vec<u8> {
     let layout: Vec<String> = LAYOUT.iter().map(|word| format!("{word:04X}")).collect();
     let mut text = format!("L\t{}\n", layout.join("\t"));
     for (address, word) in words {
         text += &format!("M\t{address:04X}\t{word:04X}\n");
+    }
+    for stamp in stamps {
+        text += &format!("A\t{stamp}\n");
     }
     text += &format!("G\t{budget}\n");
     text.into_bytes()

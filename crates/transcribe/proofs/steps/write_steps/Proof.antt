@@ -63,8 +63,8 @@ returns c =
     page-ends _ _ _ _ _ _ _ (l .registers) (l .saved) (l .mem) (l .current) _ _ _ (l .inv) (c .before .before .before .before .before .before .before .loop-test .taken) _
     (c .before .before .before .before .before .before .course-of .ensures) (ap goesOn (c .before .before .before .before .enum-told2 .given .1)) _ _ (c .before .before .last-line .ensures)
 
-one-step-requires : tie.Need-one-step-requires Inv-loop μ-loop
-one-step-requires c κs = search needs
+line-step-requires : tie.Need-line-step-requires Inv-loop μ-loop
+line-step-requires c κs = search needs
 
 add-steps : tie.Need-add-steps Inv-loop μ-loop
 add-steps c =
@@ -101,7 +101,7 @@ loop-again c =
     let timed = c .before .before .before .before .before .before .before .before .before .before .before .before .before .before .before .before .before .before .before .before .before .before .before .pre .0 in
     let g = sym (c .before .before .before .before .before .before .before .before .before .before .before .before .before .before .before .before .course-of .ensures) ∙ c .before .before .before .before .before .before .before .before .before .before .before .before .before .before .enum-told .given .1 in
     let told = course-told _ _ _ _ g in
-    let s = c .before .before .before .before .before .before .before .before .before .before .one-step .ensures timed (told .1 .0) (l .inv .upcomingHere) in
+    let s = c .before .before .before .before .before .before .before .before .before .before .line-step .ensures timed (told .1 .0) (l .inv .upcomingHere) in
     let p = c .before .before .before .put-step .ensures in
     page-next _ _ _ _ _ _ _ _ _ _ _ (l .inv) (c .before .before .before .before .before .before .before .before .before .before .before .before .before .before .before .before .before .loop-test .taken) g _ _ _ s (c .before .before .before .before .before .before .before .before .before .mem .given) _ _ (p .1 .0)
     (record { ends = p .0; lies = p .1 .1 }) _ (c .skip-passed .ensures timed (page-passed _ _ _ _ _ _ _ _ _ _ _ (l .inv) (told .0) _ _ _ s))
@@ -131,7 +131,7 @@ write-steps-spec =
     same-length
     same-length-2
     returns
-    one-step-requires
+    line-step-requires
     add-steps
     element-copy-out-put-step
     element-copy-out-put-step-2
