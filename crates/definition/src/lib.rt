@@ -1,5 +1,4 @@
-// The machine as document 01 defines it: the state, one step, many steps, what callers get, and what is claimed of them.
+// The machine as document 01 defines it: the state, one step, many steps, what callers get; the laws on them.
 pub mod answer;
 pub mod judge;
-pub mod laws;
 pub mod state;

@@ -1,9 +1,0 @@
-use Rattle.definition.proofs.separation.LocalLaws.{outside-local}
-use Rattle.definition.proofs.laws.outside_local.Statement.{statement}
-use Rattle.definition.proofs.laws.outside_local.Tie as tie
-
-returns : tie.Need-returns
-returns c = outside-local
-
-pub outside-local-spec : {M : Type 1} → statement M
-outside-local-spec = tie.close (tie.spec returns)

@@ -1,9 +1,0 @@
-use Rattle.definition.proofs.step.TwelveLaws.{padding-sum}
-use Rattle.definition.proofs.laws.padding_sum.Statement.{statement}
-use Rattle.definition.proofs.laws.padding_sum.Tie as tie
-
-returns : tie.Need-returns
-returns c = padding-sum
-
-pub padding-sum-spec : {M : Type 1} → statement M
-padding-sum-spec = tie.close (tie.spec returns)

@@ -1,9 +1,0 @@
-use Rattle.definition.proofs.run.CallLaws.{refused-untouched}
-use Rattle.definition.proofs.laws.refused_untouched.Statement.{statement}
-use Rattle.definition.proofs.laws.refused_untouched.Tie as tie
-
-returns : tie.Need-returns
-returns c = refused-untouched
-
-pub refused-untouched-spec : {M : Type 1} → statement M
-refused-untouched-spec = tie.close (tie.spec returns)

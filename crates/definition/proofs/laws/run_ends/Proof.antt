@@ -1,9 +1,0 @@
-use Rattle.definition.proofs.run.RunLaws.{run-ends}
-use Rattle.definition.proofs.laws.run_ends.Statement.{statement}
-use Rattle.definition.proofs.laws.run_ends.Tie as tie
-
-returns : tie.Need-returns
-returns c = run-ends
-
-pub run-ends-spec : {M : Type 1} → statement M
-run-ends-spec = tie.close (tie.spec returns)

@@ -1,9 +1,0 @@
-use Rattle.definition.proofs.step.TwelveLaws.{twelve-inside}
-use Rattle.definition.proofs.laws.twelve_inside.Statement.{statement}
-use Rattle.definition.proofs.laws.twelve_inside.Tie as tie
-
-returns : tie.Need-returns
-returns c = twelve-inside
-
-pub twelve-inside-spec : {M : Type 1} → statement M
-twelve-inside-spec = tie.close (tie.spec returns)
