@@ -35,7 +35,7 @@ use Rattle.transcribe.specs.Promise.{worldOf, textLeft}
 use Rattle.transcribe.proofs.FilledLaws.{no-tests}
 use Rattle.output.specs.declared.open.SheetRun.{SheetRun}
 use Rattle.output.specs.Output.{outputOf, sheetOutput}
-use Rattle.output.specs.Open.{openedMemory, openedStamps, settingOpened, OpenPromise}
+use Rattle.output.specs.Open.{openedMemory, openedStamps, noLayout, openedRun, settingOpened, OpenPromise}
 use Rattle.output.proofs.PagesLaws.{tests-together}
 
 -- a transcript of which nothing is written
@@ -49,12 +49,16 @@ started mem m answer e h =
     ap (λ (c : Called StartAnswer). c .state) e ∙ ap (λ (v : Verdict). startAnswered mem v .state) (if-true _ _ _ h)
 
 module _ (sheet mem stamps : List ℕ) where
-  pub opened-refused : (r : Refusal) (line : ℕ) → Refused r line ≡ sheetAnswer sheet → length mem ≡ memoryBytes → (L : Layout) (m : State) (budget : ℕ)
+  pub opened-refused : (r : Refusal) (line : ℕ) → Refused r line ≡ sheetAnswer sheet → length mem ≡ memoryBytes → (L : Layout) → L ≡ noLayout → (m : State) → m ≡ start mem
       → OpenPromise sheet mem stamps
-      (record { layout = L; count = 0; transcript = record { state = m; steps = 0; budget = budget; remaining = RefusalLine r line } }) mem stamps
+      (record { layout = L; count = 0; transcript = record { state = m; steps = 0; budget = 0; remaining = RefusalLine r line } }) mem stamps
   unfolding sheetOutput
-  opened-refused r line e l L m budget =
+  opened-refused r line e l L p m q =
       record {
+        result =
+            ap (λ (z : Layout). record { layout = z; count = 0; transcript = record { state = m; steps = 0; budget = 0; remaining = RefusalLine r line } }) p
+            ∙ ap (λ (z : State). record { layout = noLayout; count = 0; transcript = record { state = z; steps = 0; budget = 0; remaining = RefusalLine r line } }) q
+            ∙ ap (openedRun sheet mem) e;
         size = sym l;
         fits = omega arith;
         output = ap (outputOf sheet) e;
@@ -98,6 +102,9 @@ module _ (sheet mem stamps : List ℕ) where
         let S = settingOf (setup .layout) (take (setup .stamps) stampsThen) in
         let timed : timetable (take (setup .stamps) stampsThen) ≡ true = ap timetable own ∙ r .rising in
         record {
+          result =
+              ap (λ (x : State). record { layout = setup .layout; count = setup .stamps; transcript = before x (setup .budget) }) (s ∙ ap start f)
+              ∙ ap (openedRun sheet mem) e;
           size = sym l;
           fits = omega arith;
           output =

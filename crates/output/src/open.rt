@@ -3,7 +3,7 @@ ghost use mathlib.Core.Path.{_≡_};
 ghost use mathlib.Core.Bool.{true};
 ghost use Rattle.definition.specs.State.{start};
 ghost use Rattle.definition.specs.Calls.{wholeMemory};
-ghost use Rattle.output.specs.Open.{OpenPromise};
+ghost use Rattle.output.specs.Open.{noLayout, OpenPromise};
 use base::limits::MEMORY_BYTES;
 use base::limits::MOST_STAMPS;
 use layout::sections::Layout;
@@ -24,7 +24,9 @@ pub struct SheetRun {
 }
 
 // No layout at all.
-fn no_layout() -> Layout {
+fn no_layout() -> Layout
+    ensures { λ r. ⌜ r ≡ noLayout ⌝ }
+{
     Layout {
         code: Span { start: 0, end: 0 },
         data: Span { start: 0, end: 0 },

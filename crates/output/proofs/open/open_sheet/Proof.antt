@@ -1,5 +1,5 @@
 use lib.ListN.{length}
-use Rattle.base.specs.Limits.{mostStamps}
+use Rattle.base.specs.Limits.{memoryBytes, mostStamps}
 use mathlib.Core.Path.{_≡_, sym, _∙_, subst}
 use denote.Ref.{now}
 use borrow.Author.Tests.{eq-eqb}
@@ -38,9 +38,10 @@ returns : tie.Need-returns
 returns c =
     let a = c .before .before .before .before .before .before .before .before .before .args in
     let u = c .unwritten in
+    let l : length (now (a .mem)) ≡ memoryBytes = c .before .unwritten-arg2 .given .0 in
     let e = sym (c .before .before .before .before .before .refusal .given .1) ∙ c .before .before .before .before .before .before .before .read-sheet .ensures .result in
     subst (λ (z : Transcript). OpenPromise (now (a .text)) (now (a .mem)) (now (a .stamps)) (record { layout = c .before .before .before .no-layout .result; count = 0; transcript = z }) (now (a .mem)) (now (a .stamps)))
-    (sym (u .ensures .0)) (opened-refused (now (a .text)) (now (a .mem)) (now (a .stamps)) _ _ e (c .before .unwritten-arg2 .given .0) (c .before .before .before .no-layout .result) (u .result .state) 0)
+    (sym (u .ensures .0)) (opened-refused (now (a .text)) (now (a .mem)) (now (a .stamps)) _ _ e l (c .before .before .before .no-layout .result) (c .before .before .before .no-layout .ensures) (u .result .state) (u .ensures .1 (eq-eqb _ _ l)))
 
 returns-2 : tie.Need-returns-2
 returns-2 c =
