@@ -4,5 +4,6 @@ pub mod Limits
 pub mod Word
 pub mod Refusal
 pub mod Verdict
+pub mod Kept
 pub mod Case
 pub mod Laws

@@ -1,6 +1,6 @@
-// 16-bit words: sums and differences that keep the low 16 bits, and even addresses.
+// 16-bit words: sums and differences that keep the low 16 bits, even addresses, a number in 8 bits.
 ghost use mathlib.Core.Path.{_≡_};
-ghost use Rattle.base.specs.Word.{sum16, difference16, dropBit0, isEven};
+ghost use Rattle.base.specs.Word.{sum16, difference16, dropBit0, isEven, byteOf};
 
 // a + b, its low 16 bits.
 pub fn sum(a: u16, b: u16) -> u16
@@ -27,4 +27,14 @@ pub fn is_even(a: u16) -> bool
     ensures { λ r. ⌜ r ≡ isEven a ⌝ }
 {
     a % 2 == 0
+}
+
+// A number in 8 bits: what has more is 255, which is neither an age of a frame nor a register.
+pub fn byte_of(n: u16) -> u8
+    ensures { λ r. ⌜ r ≡ byteOf n ⌝ }
+{
+    if n > 255 {
+        return 255;
+    }
+    n as u8
 }

@@ -1,34 +1,9 @@
 // Start, step and run. Each answers 0, or the number of the refusal, which leaves all that is lent as it came.
-ghost use mathlib.Core.Path.{_≡_};
-ghost use Rattle.definition.specs.Answers.{causeOf};
-ghost use Rattle.numbers.specs.State.{numbers};
-ghost use Rattle.embed.specs.Calls.{StartReturns, StepReturns, RunReturns};
-use definition::answer::Outcome;
-use definition::answer::RunAnswer;
-use definition::answer::StartAnswer;
-use definition::answer::StepAnswer;
-use machine::calls::Machine;
-use machine::calls::step_in_place;
-use numbers::state::control_of;
-use numbers::state::hand_back;
-use numbers::state::hand_control;
-use numbers::state::layout_of;
-use numbers::state::machine_of;
-
-// The number of a step's cause, 0 where it is no reset.
-fn cause_of(outcome: Outcome) -> u8
-    ensures { λ r. ⌜ r ≡ causeOf outcome ⌝ }
-{
-    match outcome {
-        Outcome::Ran => 0,
-        Outcome::Plain => 0,
-        Outcome::Padded => 0,
-        Outcome::Chained => 0,
-        Outcome::Back => 0,
-        Outcome::Reset(cause) => cause.number(),
-        Outcome::Halted => 0,
-    }
-}
+ghost use Rattle.lentstate.specs.State.{numbers};
+ghost use Rattle.lentcalls.specs.Calls.{StartReturns, StepReturns, RunReturns};
+use lentcalls::calls::run_lent;
+use lentcalls::calls::start_lent;
+use lentcalls::calls::step_lent;
 
 // The start state of a memory.
 #[no_mangle]
@@ -41,16 +16,7 @@ pub extern "C" fn enclave_start(
 ) -> u8
     ensures { λ r. ⌜ StartReturns (now (mem .entry)) (numbers (now (registers .entry)) (now (saved .entry)) (now (control .entry)) (now (time .entry))) (numbers (now (registers .exit)) (now (saved .exit)) (now (control .exit)) (now (time .exit))) r ⌝ }
 {
-    let done = Machine::start(mem);
-    let m = done.machine.0;
-    let answer = done.answer;
-    match answer {
-        StartAnswer::Refused(refusal) => refusal.number(),
-        StartAnswer::Done => {
-            hand_back(m, registers, saved, control, time);
-            0
-        }
-    }
+    start_lent(registers, saved, control, time, mem)
 }
 
 // One step: its kind, as the bench's letter, and for a reset the number of its cause, else 0.
@@ -68,19 +34,17 @@ pub extern "C" fn enclave_step(
 ) -> u8
     ensures { λ r. ⌜ StepReturns (now (mem .entry)) (now (layout .entry)) (now (stamps .entry)) (numbers (now (registers .entry)) (now (saved .entry)) (now (control .entry)) (now (time .entry))) (numbers (now (registers .exit)) (now (saved .exit)) (now (control .exit)) (now (time .exit))) (now (mem .exit)) (now (kind .entry)) (now (kind .exit)) (now (cause .entry)) (now (cause .exit)) r ⌝ }
 {
-    let rest = control_of(*control, *time);
-    let done = step_in_place(rest, registers, saved, mem, layout_of(*layout), stamps);
-    let next = done.control;
-    let answer = done.answer;
-    match answer {
-        StepAnswer::Refused(refusal) => refusal.number(),
-        StepAnswer::Done(outcome) => {
-            hand_control(next, control, time);
-            *kind = outcome.letter();
-            *cause = cause_of(outcome);
-            0
-        }
-    }
+    step_lent(
+        registers,
+        saved,
+        control,
+        time,
+        mem,
+        layout,
+        stamps,
+        kind,
+        cause,
+    )
 }
 
 // Many steps: why it stopped, as the bench's letter, and the number of steps.
@@ -99,17 +63,16 @@ pub extern "C" fn enclave_run(
 ) -> u8
     ensures { λ r. ⌜ RunReturns (now (mem .entry)) (now (layout .entry)) (now (stamps .entry)) budget (numbers (now (registers .entry)) (now (saved .entry)) (now (control .entry)) (now (time .entry))) (numbers (now (registers .exit)) (now (saved .exit)) (now (control .exit)) (now (time .exit))) (now (mem .exit)) (now (end .entry)) (now (end .exit)) (now (steps .entry)) (now (steps .exit)) r ⌝ }
 {
-    let m = Machine(machine_of(*registers, *saved, *control, *time));
-    let done = m.run(mem, layout_of(*layout), stamps, budget);
-    let last = done.machine.0;
-    let answer = done.answer;
-    match answer {
-        RunAnswer::Refused(refusal) => refusal.number(),
-        RunAnswer::Done(ending, made) => {
-            hand_back(last, registers, saved, control, time);
-            *end = ending.letter();
-            *steps = made;
-            0
-        }
-    }
+    run_lent(
+        registers,
+        saved,
+        control,
+        time,
+        mem,
+        layout,
+        stamps,
+        budget,
+        end,
+        steps,
+    )
 }

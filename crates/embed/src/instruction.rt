@@ -1,14 +1,11 @@
 // Reading and writing one instruction, as four numbers: its row in the table of instruction words, source, destination, constant.
 ghost use mathlib.Core.Path.{_≡_};
+ghost use Rattle.base.specs.Kept.{unlessRefused};
 ghost use Rattle.isa.specs.Words.{reading, readingRefusal, writingRefusal};
-ghost use Rattle.numbers.specs.Instruction.{writingOf};
-ghost use Rattle.embed.specs.Kept.{unlessRefused};
-ghost use Rattle.embed.specs.Instruction.{readFields, readLength, writtenFirst, writtenSecond, writtenLength};
-use isa::instruction::Instruction;
-use isa::read::Reading;
-use isa::write::Writing;
-use numbers::instruction::fields_of;
-use numbers::instruction::write_fields;
+ghost use Rattle.lentwords.specs.Fields.{writingOf};
+ghost use Rattle.lentwords.specs.Instruction.{readFields, readLength, writtenFirst, writtenSecond, writtenLength};
+use lentwords::instruction::read_lent;
+use lentwords::instruction::write_lent;
 
 // The instruction that two words begin with and its length in words, or refusal 9.
 #[no_mangle]
@@ -22,14 +19,7 @@ pub extern "C" fn enclave_read(
     ensures fields { λ r. ⌜ now (fields .exit) ≡ unlessRefused r (readFields (reading first second)) (now (fields .entry)) ⌝ }
     ensures length { λ r. ⌜ now (length .exit) ≡ unlessRefused r (readLength (reading first second)) (now (length .entry)) ⌝ }
 {
-    match Instruction::read(first, second) {
-        Reading::Refused(refusal) => refusal.number(),
-        Reading::Decoded(i, n) => {
-            *fields = fields_of(i);
-            *length = n;
-            0
-        }
-    }
+    read_lent(first, second, fields, length)
 }
 
 // Exactly the words of an instruction and how many they are, or refusal 9. The second word is left alone where there is none.
@@ -45,18 +35,5 @@ pub extern "C" fn enclave_write(
     ensures second { λ r. ⌜ now (second .exit) ≡ unlessRefused r (writtenSecond (writingOf (now (fields .entry))) (now (second .entry))) (now (second .entry)) ⌝ }
     ensures length { λ r. ⌜ now (length .exit) ≡ unlessRefused r (writtenLength (writingOf (now (fields .entry)))) (now (length .entry)) ⌝ }
 {
-    match write_fields(*fields) {
-        Writing::Refused(refusal) => refusal.number(),
-        Writing::One(w) => {
-            *first = w;
-            *length = 1;
-            0
-        }
-        Writing::Two(w, v) => {
-            *first = w;
-            *second = v;
-            *length = 2;
-            0
-        }
-    }
+    write_lent(fields, first, second, length)
 }

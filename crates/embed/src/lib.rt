@@ -3,6 +3,5 @@ pub mod access;
 pub mod calls;
 pub mod fault;
 pub mod instruction;
-pub mod laws;
 pub mod page;
 pub mod setup;

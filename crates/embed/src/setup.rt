@@ -1,12 +1,8 @@
 // The sheet reader.
-ghost use Rattle.embed.specs.Setup.{setupRoom, SheetReturns};
+ghost use Rattle.lentpages.specs.Setup.{setupRoom, SheetReturns};
 use base::limits::MEMORY_BYTES;
 use base::limits::MOST_STAMPS;
-use numbers::state::layout_fields;
-use sheet::reader::Answer;
-use sheet::reader::read_sheet;
-use sheet::setup::load_memory;
-use sheet::setup::load_stamps;
+use lentpages::setup::read_sheet_lent;
 
 // What a sheet sets up: memory, stamps and their count, layout, budget. A refusal alters only `line`, which tells its line.
 #[no_mangle]
@@ -21,18 +17,5 @@ pub extern "C" fn enclave_read_sheet(
 ) -> u8
     ensures { λ r. ⌜ SheetReturns (now (text .entry)) (setupRoom (now (mem .entry)) (now (stamps .entry)) (now (layout .entry)) (now (count .entry)) (now (budget .entry)) (now (line .entry))) (setupRoom (now (mem .exit)) (now (stamps .exit)) (now (layout .exit)) (now (count .exit)) (now (budget .exit)) (now (line .exit))) r ⌝ }
 {
-    match read_sheet(text) {
-        Answer::Refused(refusal, at) => {
-            *line = at;
-            refusal.number()
-        }
-        Answer::Read(setup) => {
-            load_memory(mem, text);
-            load_stamps(stamps, text);
-            *layout = layout_fields(setup.layout);
-            *count = setup.stamps;
-            *budget = setup.budget;
-            0
-        }
-    }
+    read_sheet_lent(text, mem, stamps, layout, count, budget, line)
 }

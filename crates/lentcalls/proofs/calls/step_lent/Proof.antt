@@ -1,0 +1,77 @@
+use denote.Ref.{now}
+use Rattle.lentstate.specs.State.{numbers}
+use Rattle.lentstate.proofs.LentLaws.{lent-machine, lent-numbers}
+use Rattle.lentcalls.proofs.CallLaws.{lent-untouched, step-refused, step-taken}
+use borrow.Author.Needs.{needs}
+use Rattle.lentcalls.proofs.calls.step_lent.Statement.{statement}
+use Rattle.lentcalls.proofs.calls.step_lent.Tie as tie
+
+control-of-requires : tie.Need-control-of-requires
+control-of-requires c κs = search needs
+
+layout-of-requires : tie.Need-layout-of-requires
+layout-of-requires c κs = search needs
+
+step-in-place-requires : tie.Need-step-in-place-requires
+step-in-place-requires c κs = search needs
+
+enum-known-answer : tie.Need-enum-known-answer
+enum-known-answer c = search needs
+
+number-requires : tie.Need-number-requires
+number-requires c κs = search needs
+
+enum-known-answer-2 : tie.Need-enum-known-answer-2
+enum-known-answer-2 c = search needs
+
+hand-control-requires : tie.Need-hand-control-requires
+hand-control-requires c κs = search needs
+
+letter-requires : tie.Need-letter-requires
+letter-requires c κs = search needs
+
+cause-of-requires : tie.Need-cause-of-requires
+cause-of-requires c κs = search needs
+
+same-length : tie.Need-same-length
+same-length c = search needs
+
+returns : tie.Need-returns
+returns c =
+    let a = c .before .before .before .before .before .before .before .before .before .before .before .before .before .before .before .before .before .before .args in
+    let s = c .before .before .before .before .before .before .before .step-in-place .ensures in
+    step-refused (numbers (now (a .registers)) (now (a .saved)) (now (a .control)) (now (a .time))) _ _ _ _ (c .before .before .before .before .before .before .before .before .layout-of .ensures) _
+    (lent-machine (now (a .registers)) (now (a .saved)) (now (a .control)) (now (a .time)) _ (c .before .before .before .before .before .before .before .before .before .before .before .before .before .control-of .ensures)) _ _ _ s
+    (c .before .before .answer .given .0 .0) (c .before .before .answer .given .1) _ (c .number .ensures) _
+    (lent-untouched _ _ _ _ _ _ _ _ _ _ _ _ (c .before .before .answer .given .1) (s .refused)) _ _
+
+same-length-2 : tie.Need-same-length-2
+same-length-2 c = search needs
+
+returns-2 : tie.Need-returns-2
+returns-2 c =
+    let a = c .before .before .before .before .before .before .before .before .before .before .before .before .before .before .before .before .before .before .before .before .before .before .args in
+    let s = c .before .before .before .before .before .before .before .before .before .before .before .step-in-place .ensures in
+    let h = c .before .before .hand-control .ensures in
+    step-taken (numbers (now (a .registers)) (now (a .saved)) (now (a .control)) (now (a .time))) _ _ _ _ (c .before .before .before .before .before .before .before .before .before .before .before .before .layout-of .ensures) _
+    (lent-machine (now (a .registers)) (now (a .saved)) (now (a .control)) (now (a .time)) _ (c .before .before .before .before .before .before .before .before .before .before .before .before .before .before .before .before .before .control-of .ensures)) _ _ _ s
+    (c .before .before .before .before .before .before .answer2 .given .0 .0) (c .before .before .before .before .before .before .answer2 .given .1) _ (lent-numbers _ _ _ _ _ (h .0) (h .1)) _ _ _ _
+    (c .before .letter .ensures) (c .cause-of .ensures)
+
+pub step-lent-spec : {M : Type 1} → statement M
+step-lent-spec =
+    tie.close
+    (tie.spec
+    control-of-requires
+    layout-of-requires
+    step-in-place-requires
+    enum-known-answer
+    number-requires
+    enum-known-answer-2
+    hand-control-requires
+    letter-requires
+    cause-of-requires
+    same-length
+    returns
+    same-length-2
+    returns-2)

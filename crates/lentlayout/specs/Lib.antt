@@ -1,0 +1,4 @@
+pub mod Layout
+pub mod Access
+pub mod Fault
+pub mod Laws

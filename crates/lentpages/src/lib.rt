@@ -1,0 +1,3 @@
+// Sheets and transcripts on a machine as lent numbers.
+pub mod page;
+pub mod setup;

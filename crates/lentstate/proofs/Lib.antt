@@ -1,0 +1,3 @@
+pub mod LentLaws
+pub mod NumberLaws
+pub mod FlagLaws

@@ -1,0 +1,4 @@
+// One instruction as four lent numbers: reading and writing it.
+mod fields;
+pub mod instruction;
+pub mod laws;

@@ -1,4 +1,0 @@
-pub mod LentLaws
-pub mod NumberLaws
-pub mod FlagLaws
-pub mod RowLaws
