@@ -1,14 +1,15 @@
 // Reading and writing one instruction, as four numbers: its row in the table of instruction words, source, destination, constant.
 ghost use mathlib.Core.Path.{_≡_};
-ghost use Rattle.isa.specs.Words.{reading, readingRefusal, writingRefusal};
+ghost use Rattle.rows.specs.Words.{writingRefusal};
+ghost use Rattle.isa.specs.Words.{reading, readingRefusal};
 ghost use Rattle.numbers.specs.Instruction.{writingOf};
 ghost use Rattle.embed.specs.Kept.{unlessRefused};
 ghost use Rattle.embed.specs.Instruction.{readFields, readLength, writtenFirst, writtenSecond, writtenLength};
 use isa::instruction::Instruction;
 use isa::read::Reading;
-use isa::write::Writing;
 use numbers::instruction::fields_of;
 use numbers::instruction::write_fields;
+use rows::write::Writing;
 
 // The instruction that two words begin with and its length in words, or refusal 9.
 #[no_mangle]

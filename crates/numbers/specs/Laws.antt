@@ -1,8 +1,8 @@
 -- What is claimed of the numbers that a caller lends: the statements of the laws.
 use mathlib.Core.Path.{_≡_}
 use mathlib.Core.Bool.{true, false}
+use Rattle.rows.specs.declared.row.Row.{Row}
 use Rattle.isa.specs.declared.instruction.Instruction.{Instruction}
-use Rattle.isa.specs.declared.table.Row.{Row}
 use Rattle.isa.specs.Words.{writing}
 use Rattle.layout.specs.declared.sections.Layout.{Layout}
 use Rattle.definition.specs.Setting.{Setting}
