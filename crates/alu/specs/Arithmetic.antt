@@ -6,8 +6,8 @@ use lib.Dec.{eqb, leb}
 use lib.Bits.{bitAnd}
 use Rattle.base.specs.Test.{all}
 use Rattle.base.specs.Word.{sum16, difference16}
-use Rattle.isa.specs.declared.instruction.Operation.{Operation}
-use Rattle.isa.specs.declared.instruction.Operation.the-variants.{Add, Sub, Cmp, And}
+use Rattle.rows.specs.declared.row.Operation.{Operation}
+use Rattle.rows.specs.declared.row.Operation.the-variants.{Add, Sub, Cmp, And}
 use Rattle.alu.specs.declared.arithmetic.Computed.{Computed}
 
 -- bit 15, the sign

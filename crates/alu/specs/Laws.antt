@@ -7,7 +7,7 @@ use lib.Dec.{eqb}
 use lib.IntN.{ℤ, pos, negsuc, _+ℤ_, _-ℤ_}
 use lib.Signed.{leZ}
 use Rattle.base.specs.Test.{if_then_else_, all}
-use Rattle.isa.specs.declared.instruction.Operation.the-variants.{Add, Sub}
+use Rattle.rows.specs.declared.row.Operation.the-variants.{Add, Sub}
 use Rattle.alu.specs.declared.arithmetic.Computed.{Computed}
 use Rattle.alu.specs.Arithmetic.{bit15, computed}
 use Rattle.alu.specs.Status.{gie, zero, withoutFlags, setFlags, keepGie}

@@ -2,8 +2,8 @@
 use mathlib.Core.List.{List, [], _∷_}
 use Prim.Native.Nat.{ℕ}
 use Rattle.base.specs.Case.{Case, case}
-use Rattle.isa.specs.declared.instruction.Operation.{Operation}
-use Rattle.isa.specs.declared.instruction.Operation.the-variants.{Add, Sub}
+use Rattle.rows.specs.declared.row.Operation.{Operation}
+use Rattle.rows.specs.declared.row.Operation.the-variants.{Add, Sub}
 use Rattle.alu.specs.Arithmetic.{computed}
 use Rattle.alu.specs.Status.{setFlags}
 

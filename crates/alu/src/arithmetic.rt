@@ -3,7 +3,7 @@ ghost use mathlib.Core.Path.{_≡_};
 ghost use Rattle.alu.specs.Arithmetic.{bit15, notZero, signTurns, added, subtracted, conjoined, inverted, computed};
 use base::word::difference;
 use base::word::sum;
-use isa::instruction::Operation;
+use rows::row::Operation;
 
 // A 16-bit result, and the carry and the overflow that go with it to the flags.
 pub struct Computed {

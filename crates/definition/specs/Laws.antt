@@ -15,10 +15,10 @@ use Rattle.base.specs.Limits.{lastClock}
 use Rattle.base.specs.Verdict.{verdict}
 use Rattle.base.specs.Test.{if_then_else_, all}
 use Rattle.base.specs.Word.{dropBit0, sum16}
+use Rattle.rows.specs.Words.{begun, twoWords}
 use Rattle.isa.specs.declared.instruction.Instruction.{Instruction}
 use Rattle.isa.specs.declared.instruction.Instruction.the-variants.{Reti}
 use Rattle.isa.specs.Cycles.{cyclesOf}
-use Rattle.isa.specs.Words.{begun, twoWords}
 use Rattle.layout.specs.declared.sections.Layout.{Layout}
 use Rattle.layout.specs.declared.access.Right.the-variants.{Execute as execute}
 use Rattle.layout.specs.declared.sections.Section.{Section}

@@ -1,7 +1,8 @@
 // Reading and writing one instruction, as four numbers: its row in the table of instruction words, source, destination, constant.
 ghost use mathlib.Core.Path.{_≡_};
 ghost use Rattle.base.specs.Kept.{unlessRefused};
-ghost use Rattle.isa.specs.Words.{reading, readingRefusal, writingRefusal};
+ghost use Rattle.rows.specs.Words.{writingRefusal};
+ghost use Rattle.isa.specs.Words.{reading, readingRefusal};
 ghost use Rattle.lentwords.specs.Fields.{writingOf};
 ghost use Rattle.lentwords.specs.Instruction.{readFields, readLength, writtenFirst, writtenSecond, writtenLength};
 use lentwords::instruction::read_lent;

@@ -6,8 +6,8 @@ use Prim.Native.Nat.{ℕ}
 use native.Mathlib.Omega.{arith}
 use borrow.Author.Tests.{not-true}
 use Rattle.base.proofs.Tests.{cases, if-false, choose, choose-both}
-use Rattle.isa.specs.declared.read.Begun.{Begun}
-use Rattle.isa.specs.Words.{begun}
+use Rattle.rows.specs.declared.read.Begun.{Begun}
+use Rattle.rows.specs.Words.{begun}
 use Rattle.isa.specs.Cycles.{cyclesOf}
 use Rattle.alu.specs.Status.{gie}
 use Rattle.layout.specs.declared.sections.Layout.{Layout}

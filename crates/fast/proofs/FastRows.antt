@@ -10,17 +10,18 @@ use borrow.Author.Tests.{ltb-false, ne-eqb, not-false}
 use Rattle.base.specs.Test.{if_then_else_}
 use Rattle.base.specs.Word.{dropBit0}
 use Rattle.base.proofs.Tests.{every, if-true, if-false, choose}
-use Rattle.isa.specs.declared.instruction.Operation.{Operation}
-use Rattle.isa.specs.declared.instruction.Operation.the-variants.{Add, Sub, Cmp, And}
+use Rattle.rows.specs.declared.row.Operation.{Operation}
+use Rattle.rows.specs.declared.row.Operation.the-variants.{Add, Sub, Cmp, And}
+use Rattle.rows.specs.declared.row.Row.{Row}
+use Rattle.rows.specs.declared.row.Row.the-variants.{Jz as JZ, Nop as NOP, Jmp as JMP, Mov as MOV, Load as LOAD, Store as STORE, Immediate as IMMEDIATE, Compute as COMPUTE}
+use Rattle.rows.specs.declared.read.Begun.{Begun}
+use Rattle.rows.specs.declared.read.Begun.the-variants.{Found}
+use Rattle.rows.specs.Words.{twoWords}
 use Rattle.isa.specs.declared.instruction.Operand.the-variants.{Register, Pointed, Constant}
 use Rattle.isa.specs.declared.instruction.Instruction.{Instruction}
 use Rattle.isa.specs.declared.instruction.Instruction.the-variants.{Jz, Nop, Jmp, Mov, Store, Compute}
-use Rattle.isa.specs.declared.table.Row.{Row}
-use Rattle.isa.specs.declared.table.Row.the-variants.{Jz as JZ, Nop as NOP, Jmp as JMP, Mov as MOV, Load as LOAD, Store as STORE, Immediate as IMMEDIATE, Compute as COMPUTE}
-use Rattle.isa.specs.declared.read.Begun.{Begun}
-use Rattle.isa.specs.declared.read.Begun.the-variants.{Found}
 use Rattle.isa.specs.declared.read.Reading.the-variants.{Decoded}
-use Rattle.isa.specs.Words.{twoWords, finished}
+use Rattle.isa.specs.Words.{finished}
 use Rattle.isa.specs.Cycles.{cyclesOf, lengthOf}
 use Rattle.alu.specs.Arithmetic.{computed}
 use Rattle.alu.specs.Status.{gie, zero as zeroSet}
@@ -28,7 +29,7 @@ use Rattle.alu.specs.Laws.{FlagsOnly}
 use Rattle.alu.proofs.StatusBits.{flags-only}
 use Rattle.layout.specs.declared.sections.Layout.{Layout}
 use Rattle.layout.specs.declared.access.Right.the-variants.{Read as read, Write as write}
-use Rattle.isa.specs.Table.{pointer}
+use Rattle.rows.specs.Table.{pointer}
 use Rattle.layout.specs.Sections.{sameSide}
 use Rattle.layout.specs.Access.{may}
 use Rattle.definition.specs.declared.judge.Judged.the-variants.{Acts}

@@ -10,7 +10,7 @@ use borrow.Author.Tests.{ne-eqb}
 use Rattle.base.specs.Test.{if_then_else_}
 use Rattle.base.proofs.Tests.{cases, choose, if-false}
 use Rattle.base.specs.Limits.{memoryBytes, lastClock}
-use Rattle.isa.specs.Words.{begun}
+use Rattle.rows.specs.Words.{begun}
 use Rattle.alu.specs.Status.{gie}
 use Rattle.layout.specs.declared.sections.Layout.{Layout}
 use Rattle.definition.specs.Setting.{Setting}

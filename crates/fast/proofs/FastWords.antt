@@ -9,21 +9,21 @@ use borrow.Author.Tests.{ltb-false, eqb-true, not-false}
 use Rattle.base.specs.Test.{if_then_else_, all}
 use Rattle.base.specs.Word.{dropBit0}
 use Rattle.base.proofs.Tests.{cases, each, every, if-true, choose}
-use Rattle.isa.specs.declared.instruction.Operation.{Operation}
-use Rattle.isa.specs.declared.instruction.Operation.the-variants.{Add, Sub, Cmp, And}
+use Rattle.rows.specs.declared.row.Operation.{Operation}
+use Rattle.rows.specs.declared.row.Operation.the-variants.{Add, Sub, Cmp, And}
+use Rattle.rows.specs.declared.row.Row.{Row}
+use Rattle.rows.specs.declared.row.Row.the-variants.{Jz as JZ, Nop as NOP, Jmp as JMP, Mov as MOV, Load as LOAD, Store as STORE, Immediate as IMMEDIATE, Compute as COMPUTE}
+use Rattle.rows.specs.declared.read.Begun.{Begun}
+use Rattle.rows.specs.declared.read.Begun.the-variants.{Found}
+use Rattle.rows.specs.Words.{hasWord, begun}
 use Rattle.isa.specs.declared.instruction.Operand.the-variants.{Register, Pointed}
 use Rattle.isa.specs.declared.instruction.Instruction.{Instruction}
 use Rattle.isa.specs.declared.instruction.Instruction.the-variants.{Nop, Jmp, Mov, Store}
-use Rattle.isa.specs.declared.table.Row.{Row}
-use Rattle.isa.specs.declared.table.Row.the-variants.{Jz as JZ, Nop as NOP, Jmp as JMP, Mov as MOV, Load as LOAD, Store as STORE, Immediate as IMMEDIATE, Compute as COMPUTE}
-use Rattle.isa.specs.declared.read.Begun.{Begun}
-use Rattle.isa.specs.declared.read.Begun.the-variants.{Found}
-use Rattle.isa.specs.Words.{hasWord, begun}
 use Rattle.alu.specs.Arithmetic.{computed}
 use Rattle.layout.specs.declared.sections.Layout.{Layout}
 use Rattle.layout.specs.declared.access.Right.the-variants.{Read as read, Write as write}
-use Rattle.isa.specs.Table.{operationWord, firstWord, sDigit, dDigit}
-use Rattle.isa.proofs.Rows.{has, begun-row}
+use Rattle.rows.specs.Table.{operationWord, firstWord, sDigit, dDigit}
+use Rattle.rows.proofs.Rows.{has, begun-row}
 use Rattle.layout.specs.Sections.{sameSide}
 use Rattle.layout.specs.Access.{may}
 use Rattle.fast.specs.declared.effect.Speed.{Speed}

@@ -6,8 +6,8 @@ use Prim.Native.Nat.{ℕ, _*_, _/_, _%_}
 use lib.Dec.{ltb, eqb}
 use Rattle.base.specs.Test.{if_then_else_, all}
 use Rattle.base.specs.Word.{dropBit0, sum16}
-use Rattle.isa.specs.declared.instruction.Operation.{Operation}
-use Rattle.isa.specs.declared.instruction.Operation.the-variants.{Add, Sub, Cmp, And}
+use Rattle.rows.specs.declared.row.Operation.{Operation}
+use Rattle.rows.specs.declared.row.Operation.the-variants.{Add, Sub, Cmp, And}
 use Rattle.isa.specs.declared.instruction.Operand.the-variants.{Register, Pointed, Constant}
 use Rattle.isa.specs.declared.instruction.Instruction.{Instruction}
 use Rattle.isa.specs.declared.instruction.Instruction.the-variants.{Jz, Nop, Jmp, Mov, Store, Compute}

@@ -1,6 +1,6 @@
 // What a common instruction does, by the digits of its first word: it sets pc, one more register and the status, or puts a word.
 //
-// A second decoder beside `Begun::begin` of isa. The reason: the answer of `Begun::begin` comes back through memory and is waited for, 5 of 12
+// A second decoder beside `Begun::begin` of rows. The reason: the answer of `Begun::begin` comes back through memory and is waited for, 5 of 12
 // nanoseconds a step (docs/DECISIONS.md, docs/PERFORMANCE.md). The proof that it is the table's: `fast_by_table` in laws.rt. Wherever a word
 // is taken here, the table reads an instruction there, and its cycles and length are taken, by its kind, which the compiler folds.
 ghost use mathlib.Core.Path.{_≡_};
@@ -20,9 +20,9 @@ use base::word::drop_bit_0;
 use base::word::sum;
 use isa::instruction::Instruction;
 use isa::instruction::Operand;
-use isa::instruction::Operation;
 use layout::access::Right;
 use layout::sections::Layout;
+use rows::row::Operation;
 
 // What a fast step sets, in this order: pc, one more register by its number, the status; whether it puts its source; its cycles.
 pub struct Effect {

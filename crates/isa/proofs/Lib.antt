@@ -1,3 +1,2 @@
 pub mod Computes
-pub mod Rows
 pub mod Words

@@ -7,26 +7,28 @@ use borrow.Author.Tests.{eqb-true, ltb-true, lt-ltb}
 use Rattle.base.specs.Test.{if_then_else_}
 use Rattle.base.proofs.Tests.{each, every, if-true, if-false, choose}
 use Rattle.base.specs.declared.refusal.Refusal.the-variants.{Word}
-use Rattle.isa.specs.declared.instruction.Operation.the-variants.{Add, Sub, Cmp, And}
+use Rattle.rows.specs.declared.row.Operation.the-variants.{Add, Sub, Cmp, And}
+use Rattle.rows.specs.declared.row.Row.{Row}
+use Rattle.rows.specs.declared.row.Row.the-variants.{Hlt as HLT, In as IN, Out as OUT, Jz as JZ, Reti as RETI, Nop as NOP, Jmp as JMP, Mov as MOV, Load as LOAD, Store as STORE, Immediate as IMMEDIATE, Compute as COMPUTE, Not as NOT}
+use Rattle.rows.specs.declared.row.Second.{Second}
+use Rattle.rows.specs.declared.row.Second.the-variants.{Nothing as none, Exactly as exactly, Anything as anything}
+use Rattle.rows.specs.declared.row.Encoding.{Encoding}
+use Rattle.rows.specs.declared.read.Begun.{Begun}
+use Rattle.rows.specs.declared.read.Begun.the-variants.{Nothing, Found}
+use Rattle.rows.specs.declared.write.Writing.{Writing}
+use Rattle.rows.specs.declared.write.Writing.the-variants.{One, Two, Refused as Unwritten}
+use Rattle.rows.specs.Table.{DigitPosition, second, last, nowhere, digitAt, formatOf, hasSecond, secondFits, firstWord, sDigit, dDigit}
+use Rattle.rows.specs.Words.{hasWord, begun, decodes, encodable, wordsOf, written, writingRefusal}
+use Rattle.rows.proofs.Rows.{has, word-of, taken, Begins, nothing, row, begun-begins, begun-row}
 use Rattle.isa.specs.declared.instruction.Operand.the-variants.{Register, Pointed, Constant}
 use Rattle.isa.specs.declared.instruction.Instruction.{Instruction}
 use Rattle.isa.specs.declared.instruction.Instruction.the-variants.{Hlt, In, Out, Jz, Reti, Nop, Jmp, Mov, Store, Compute, Not}
-use Rattle.isa.specs.declared.table.Row.{Row}
-use Rattle.isa.specs.declared.table.Row.the-variants.{Hlt as HLT, In as IN, Out as OUT, Jz as JZ, Reti as RETI, Nop as NOP, Jmp as JMP, Mov as MOV, Load as LOAD, Store as STORE, Immediate as IMMEDIATE, Compute as COMPUTE, Not as NOT}
-use Rattle.isa.specs.declared.table.Second.{Second}
-use Rattle.isa.specs.declared.table.Second.the-variants.{Nothing as none, Exactly as exactly, Anything as anything}
-use Rattle.isa.specs.declared.table.Encoding.{Encoding}
-use Rattle.isa.specs.declared.read.Begun.{Begun}
-use Rattle.isa.specs.declared.read.Begun.the-variants.{Nothing, Found}
 use Rattle.isa.specs.declared.read.Reading.{Reading}
 use Rattle.isa.specs.declared.read.Reading.the-variants.{Decoded, Refused}
-use Rattle.isa.specs.declared.write.Writing.{Writing}
-use Rattle.isa.specs.declared.write.Writing.the-variants.{One, Two, Refused as Unwritten}
-use Rattle.isa.specs.Table.{DigitPosition, second, last, nowhere, digitAt, formatOf, hasSecond, secondFits, firstWord, sDigit, dDigit, instructionOf, encodingOf}
+use Rattle.isa.specs.Encoding.{instructionOf, encodingOf}
 use Rattle.isa.specs.Cycles.{lengthOf}
-use Rattle.isa.specs.Words.{hasWord, begun, finished, reading, decodes, readingRefusal, encodable, wordsOf, written, writing, writingRefusal}
-use Rattle.isa.specs.Laws.{OneRow, firstWords, ReadThenWritten, WrittenThenRead, SecondUnread}
-use Rattle.isa.proofs.Rows.{one-row, has, word-of, taken, Begins, nothing, row, begun-begins, begun-row}
+use Rattle.isa.specs.Words.{finished, reading, readingRefusal, writing}
+use Rattle.isa.specs.Laws.{firstWords, ReadThenWritten, WrittenThenRead, SecondUnread}
 
 -- two answers that differ are not equal
 refused : {A : Type 0} {i : Instruction} {n : ℕ} → Refused Word ≡ Decoded i n → A
@@ -312,10 +314,6 @@ written-then-read i w v = (one, two)
     two e =
         let k = wrote (encodingOf i) (Two w v) (λ p. let z : _≡_ {A = ℕ} 0 1 = cc in omega arith) e in
         read-wrote i w v true (k .0) (wrote-two _ _ v _ w (k .1))
-
-pub one-row-only : OneRow
-unfolding OneRow
-one-row-only = one-row
 
 -- a refusal has the number 9
 pub reading-number : (b : Begun) (v : ℕ) → readingRefusal (finished b v) ≡ (if decodes b v then 0 else 9)

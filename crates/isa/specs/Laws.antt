@@ -1,19 +1,13 @@
 -- What is claimed of reading and writing.
 use mathlib.Core.Path.{_≡_}
-use mathlib.Core.Bool.{true}
 use Prim.Native.Nat.{ℕ}
 use lib.Dec.{eqb}
 use Rattle.base.specs.Test.{if_then_else_}
+use Rattle.rows.specs.declared.write.Writing.{Writing}
+use Rattle.rows.specs.declared.write.Writing.the-variants.{One, Two}
 use Rattle.isa.specs.declared.instruction.Instruction.{Instruction}
-use Rattle.isa.specs.declared.table.Row.{Row}
 use Rattle.isa.specs.declared.read.Reading.the-variants.{Decoded}
-use Rattle.isa.specs.declared.write.Writing.{Writing}
-use Rattle.isa.specs.declared.write.Writing.the-variants.{One, Two}
-use Rattle.isa.specs.Words.{hasWord, reading, writing}
-
--- no first word is in two rows, so reading has no order in it
-unfoldable pub OneRow : Type 0
-OneRow = (r q : Row) (w : ℕ) → hasWord r w ≡ true → hasWord q w ≡ true → r ≡ q
+use Rattle.isa.specs.Words.{reading, writing}
 
 -- as many of the two words as the length says
 unfoldable pub firstWords : ℕ → ℕ → ℕ → Writing

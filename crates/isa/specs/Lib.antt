@@ -1,6 +1,5 @@
-pub mod Table
+pub mod Encoding
 pub mod Cycles
 pub mod Words
-pub mod internal
 pub mod Laws
 pub mod Starred

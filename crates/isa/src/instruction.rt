@@ -1,12 +1,5 @@
 // The instructions of document 01. Registers are numbers; those above 15 stand for nothing and are refused in writing.
-
-// What ADD, SUB, CMP and AND do.
-pub enum Operation {
-    Add,
-    Sub,
-    Cmp,
-    And,
-}
+use rows::row::Operation;
 
 // What MOV moves: a register, the word that a register points at, a constant.
 pub enum Operand {

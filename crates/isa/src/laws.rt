@@ -1,12 +1,7 @@
 // What is claimed of instruction words: each claim is the contract of a function with nothing to do.
 ghost use Rattle.base.specs.Case.{Settled};
-ghost use Rattle.isa.specs.Laws.{OneRow, ReadThenWritten, WrittenThenRead, SecondUnread};
+ghost use Rattle.isa.specs.Laws.{ReadThenWritten, WrittenThenRead, SecondUnread};
 ghost use Rattle.isa.specs.Starred.{wordCases};
-
-// No first word is in two rows of the table.
-pub fn no_word_in_two_rows()
-    ensures { λ _. ⌜ OneRow ⌝ }
-{}
 
 // Writing what was read gives back exactly the words.
 pub fn read_then_written()

@@ -8,16 +8,21 @@ use borrow.Author.Tests.{ltb-true}
 use Rattle.base.specs.Test.{if_then_else_}
 use Rattle.base.specs.declared.refusal.Refusal.the-variants.{Word}
 use Rattle.base.proofs.Tests.{cases, each, never, if-true, if-false}
-use Rattle.isa.specs.declared.instruction.Operation.the-variants.{Add, Sub, Cmp, And}
+use Rattle.rows.specs.declared.row.Operation.the-variants.{Add, Sub, Cmp, And}
+use Rattle.rows.specs.declared.row.Row.{Row}
+use Rattle.rows.specs.declared.row.Row.the-variants.{Hlt as HLT, In as IN, Out as OUT, Jz as JZ, Reti as RETI, Nop as NOP, Jmp as JMP, Mov as MOV, Load as LOAD, Store as STORE, Immediate as IMMEDIATE, Compute as COMPUTE, Not as NOT}
+use Rattle.rows.specs.declared.row.Encoding.{Encoding}
+use Rattle.rows.specs.declared.write.Writing.the-variants.{Refused as Unwritten}
+use Rattle.rows.specs.Words.{encodable, written}
 use Rattle.isa.specs.declared.instruction.Operand.the-variants.{Register, Pointed, Constant}
 use Rattle.isa.specs.declared.instruction.Instruction.{Instruction}
 use Rattle.isa.specs.declared.instruction.Instruction.the-variants.{Hlt, In, Out, Jz, Reti, Nop, Jmp, Mov, Store, Compute, Not}
-use Rattle.isa.specs.declared.table.Row.{Row}
-use Rattle.isa.specs.declared.table.Row.the-variants.{Hlt as HLT, In as IN, Out as OUT, Jz as JZ, Reti as RETI, Nop as NOP, Jmp as JMP, Mov as MOV, Load as LOAD, Store as STORE, Immediate as IMMEDIATE, Compute as COMPUTE, Not as NOT}
-use Rattle.isa.specs.declared.table.Encoding.{Encoding}
-use Rattle.isa.specs.declared.write.Writing.the-variants.{Refused as Unwritten}
-use Rattle.isa.specs.Table.{instructionOf, encodingOf}
-use Rattle.isa.specs.Words.{encodable, written}
+use Rattle.rows.specs.declared.row.Row.{Row}
+use Rattle.rows.specs.declared.row.Row.the-variants.{Hlt as HLT, In as IN, Out as OUT, Jz as JZ, Reti as RETI, Nop as NOP, Jmp as JMP, Mov as MOV, Load as LOAD, Store as STORE, Immediate as IMMEDIATE, Compute as COMPUTE, Not as NOT}
+use Rattle.rows.specs.declared.row.Encoding.{Encoding}
+use Rattle.rows.specs.declared.write.Writing.the-variants.{Refused as Unwritten}
+use Rattle.isa.specs.Encoding.{instructionOf, encodingOf}
+use Rattle.rows.specs.Words.{encodable, written}
 use Rattle.lentwords.specs.declared.fields.Numbered.the-variants.{Present}
 use Rattle.base.specs.Word.{byteOf}
 use Rattle.lentwords.specs.Fields.{rowAt, rowIndex, fieldsOf, writingOf}

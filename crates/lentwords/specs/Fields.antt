@@ -5,15 +5,16 @@ use lib.Dec.{ltb}
 use lib.ListN.{getD}
 use Rattle.base.specs.Test.{if_then_else_}
 use Rattle.base.specs.declared.refusal.Refusal.the-variants.{Word}
-use Rattle.isa.specs.declared.instruction.Operation.{Operation}
-use Rattle.isa.specs.declared.instruction.Operation.the-variants.{Add, Sub, Cmp, And}
+use Rattle.rows.specs.declared.row.Operation.{Operation}
+use Rattle.rows.specs.declared.row.Operation.the-variants.{Add, Sub, Cmp, And}
+use Rattle.rows.specs.declared.row.Row.{Row}
+use Rattle.rows.specs.declared.row.Row.the-variants.{Hlt as HLT, In as IN, Out as OUT, Jz as JZ, Reti as RETI, Nop as NOP, Jmp as JMP, Mov as MOV, Load as LOAD, Store as STORE, Immediate as IMMEDIATE, Compute as COMPUTE, Not as NOT}
+use Rattle.rows.specs.declared.row.Encoding.{Encoding}
+use Rattle.rows.specs.declared.write.Writing.{Writing}
+use Rattle.rows.specs.declared.write.Writing.the-variants.{Refused as Unwritten}
+use Rattle.rows.specs.Table.{rows}
 use Rattle.isa.specs.declared.instruction.Instruction.{Instruction}
-use Rattle.isa.specs.declared.table.Row.{Row}
-use Rattle.isa.specs.declared.table.Row.the-variants.{Hlt as HLT, In as IN, Out as OUT, Jz as JZ, Reti as RETI, Nop as NOP, Jmp as JMP, Mov as MOV, Load as LOAD, Store as STORE, Immediate as IMMEDIATE, Compute as COMPUTE, Not as NOT}
-use Rattle.isa.specs.declared.table.Encoding.{Encoding}
-use Rattle.isa.specs.declared.write.Writing.{Writing}
-use Rattle.isa.specs.declared.write.Writing.the-variants.{Refused as Unwritten}
-use Rattle.isa.specs.Table.{rows, instructionOf, encodingOf}
+use Rattle.isa.specs.Encoding.{instructionOf, encodingOf}
 use Rattle.isa.specs.Words.{writing}
 use Rattle.lentwords.specs.declared.fields.Numbered.{Numbered}
 use Rattle.lentwords.specs.declared.fields.Numbered.the-variants.{Present, Absent}

@@ -1,10 +1,12 @@
 -- What is told of an instruction that is read or written.
 use Prim.Native.Nat.{ℕ}
 use mathlib.Core.List.{List, []}
+use Rattle.rows.specs.declared.write.Writing.{Writing}
+use Rattle.rows.specs.declared.write.Writing.the-variants.{One, Two, Refused as Unwritten}
 use Rattle.isa.specs.declared.read.Reading.{Reading}
 use Rattle.isa.specs.declared.read.Reading.the-variants.{Decoded, Refused as Unread}
-use Rattle.isa.specs.declared.write.Writing.{Writing}
-use Rattle.isa.specs.declared.write.Writing.the-variants.{One, Two, Refused as Unwritten}
+use Rattle.rows.specs.declared.write.Writing.{Writing}
+use Rattle.rows.specs.declared.write.Writing.the-variants.{One, Two, Refused as Unwritten}
 use Rattle.lentwords.specs.Fields.{fieldsOf}
 
 -- the four numbers of what was read; none of a refusal

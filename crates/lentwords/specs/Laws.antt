@@ -1,7 +1,7 @@
 -- What is claimed of an instruction as four numbers: the statements of the laws.
 use mathlib.Core.Path.{_≡_}
 use Rattle.isa.specs.declared.instruction.Instruction.{Instruction}
-use Rattle.isa.specs.declared.table.Row.{Row}
+use Rattle.rows.specs.declared.row.Row.{Row}
 use Rattle.isa.specs.Words.{writing}
 use Rattle.lentwords.specs.declared.fields.Numbered.the-variants.{Present}
 use Rattle.lentwords.specs.Fields.{rowAt, rowIndex, fieldsOf, writingOf}

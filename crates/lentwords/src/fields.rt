@@ -3,12 +3,12 @@ ghost use mathlib.Core.Path.{_≡_};
 ghost use Rattle.lentwords.specs.Fields.{rowAt, operationIndex, rowIndex, fieldsOf, writingOf};
 use base::refusal::Refusal;
 use base::word::byte_of;
+use isa::encoding::encoding_of;
+use isa::encoding::instruction_of;
 use isa::instruction::Instruction;
-use isa::instruction::Operation;
-use isa::table::Row;
-use isa::table::encoding_of;
-use isa::table::instruction_of;
-use isa::write::Writing;
+use rows::row::Operation;
+use rows::row::Row;
+use rows::write::Writing;
 
 // A row, or none.
 enum Numbered {

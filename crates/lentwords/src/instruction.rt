@@ -1,6 +1,7 @@
 // Reading and writing one instruction, as four numbers: its row in the table of instruction words, source, destination, constant.
 ghost use mathlib.Core.Path.{_≡_};
-ghost use Rattle.isa.specs.Words.{reading, readingRefusal, writingRefusal};
+ghost use Rattle.rows.specs.Words.{writingRefusal};
+ghost use Rattle.isa.specs.Words.{reading, readingRefusal};
 ghost use Rattle.lentwords.specs.Fields.{writingOf};
 ghost use Rattle.base.specs.Kept.{unlessRefused};
 ghost use Rattle.lentwords.specs.Instruction.{readFields, readLength, writtenFirst, writtenSecond, writtenLength};
@@ -8,7 +9,7 @@ use crate::fields::fields_of;
 use crate::fields::write_fields;
 use isa::instruction::Instruction;
 use isa::read::Reading;
-use isa::write::Writing;
+use rows::write::Writing;
 
 // The instruction that two words begin with and its length in words, or refusal 9.
 pub fn read_lent(first: u16, second: u16, fields: &mut [u16; 4], length: &mut u8) -> u8

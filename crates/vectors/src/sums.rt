@@ -4,7 +4,7 @@ use alu::arithmetic::compute;
 use alu::arithmetic::invert;
 use alu::status::set_flags;
 use console::print;
-use isa::instruction::Operation;
+use rows::row::Operation;
 
 const VALUES: [u16; 5] = [0x0000, 0x0001, 0x7fff, 0x8000, 0xffff];
 

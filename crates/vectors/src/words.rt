@@ -3,9 +3,9 @@ use base::word::sum;
 use console::print;
 use isa::instruction::Instruction;
 use isa::instruction::Operand;
-use isa::instruction::Operation;
 use isa::read::Reading;
-use isa::write::Writing;
+use rows::row::Operation;
+use rows::write::Writing;
 
 // The rows' edges.
 const EDGES: [u16; 26] = [

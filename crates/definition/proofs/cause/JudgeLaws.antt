@@ -7,13 +7,14 @@ use borrow.Author.Tests.{not-false}
 use Rattle.base.specs.Test.{if_then_else_, all}
 use Rattle.base.specs.Word.{dropBit0, sum16}
 use Rattle.base.proofs.Tests.{cases, each, if-true, if-false, choose}
+use Rattle.rows.specs.declared.row.Row.{Row}
+use Rattle.rows.specs.declared.read.Begun.{Begun}
+use Rattle.rows.specs.declared.read.Begun.the-variants.{Nothing, Found}
+use Rattle.rows.specs.Words.{twoWords}
 use Rattle.isa.specs.declared.instruction.Instruction.{Instruction}
-use Rattle.isa.specs.declared.table.Row.{Row}
-use Rattle.isa.specs.declared.read.Begun.{Begun}
-use Rattle.isa.specs.declared.read.Begun.the-variants.{Nothing, Found}
 use Rattle.isa.specs.declared.read.Reading.{Reading}
 use Rattle.isa.specs.declared.read.Reading.the-variants.{Decoded, Refused}
-use Rattle.isa.specs.Words.{twoWords, finished}
+use Rattle.isa.specs.Words.{finished}
 use Rattle.layout.specs.declared.sections.Layout.{Layout}
 use Rattle.layout.specs.declared.access.Right.{Right}
 use Rattle.layout.specs.declared.access.Right.the-variants.{Execute as execute, Read as read, Write as write}

@@ -8,10 +8,10 @@ use borrow.Author.Tests.{eqb-true}
 use Rattle.base.specs.Test.{all}
 use Rattle.base.specs.Word.{dropBit0, isEven, sum16}
 use Rattle.base.proofs.Tests.{choose-both}
+use Rattle.rows.specs.declared.read.Begun.{Begun}
+use Rattle.rows.specs.declared.read.Begun.the-variants.{Nothing, Found}
+use Rattle.rows.specs.Words.{begun}
 use Rattle.isa.specs.declared.instruction.Instruction.{Instruction}
-use Rattle.isa.specs.declared.read.Begun.{Begun}
-use Rattle.isa.specs.declared.read.Begun.the-variants.{Nothing, Found}
-use Rattle.isa.specs.Words.{begun}
 use Rattle.layout.specs.declared.access.Right.the-variants.{Read as read}
 use Rattle.layout.specs.Sections.{inside, outside, sameSide}
 use Rattle.layout.specs.Rules.{accepted}

@@ -1,8 +1,8 @@
 use mathlib.Core.Path.{sym, _∙_, ap}
 use denote.Ref.{now}
-use Rattle.isa.specs.Words.{writingRefusal}
+use Rattle.rows.specs.Words.{writingRefusal}
 use Rattle.lentwords.specs.Instruction.{writtenFirst, writtenSecond, writtenLength}
-use Rattle.isa.specs.declared.write.Writing.{Writing}
+use Rattle.rows.specs.declared.write.Writing.{Writing}
 use Rattle.base.proofs.KeptLaws.{kept, given}
 use borrow.Author.Needs.{needs}
 use Rattle.lentwords.proofs.instruction.write_lent.Statement.{statement}

@@ -6,14 +6,14 @@ use Rattle.isa.proofs.instruction.Instruction.write.Tie as tie
 encoding-of-requires : tie.Need-encoding-of-requires
 encoding-of-requires c κs = search needs
 
-write-encoding-requires : tie.Need-write-encoding-requires
-write-encoding-requires c κs = search needs
+write-requires : tie.Need-write-requires
+write-requires c κs = search needs
 
 returns : tie.Need-returns
 returns c = (
-  simp (c .write-encoding .ensures, c .before .encoding-of .ensures),
-  simp (c .write-encoding .ensures, c .before .encoding-of .ensures) (writing-number _),
+  simp (c .write .ensures, c .before .encoding-of .ensures),
+  simp (c .write .ensures, c .before .encoding-of .ensures) (writing-number _),
 )
 
 pub write-spec : {M : Type 1} → statement M
-write-spec = tie.close (tie.spec encoding-of-requires write-encoding-requires returns)
+write-spec = tie.close (tie.spec encoding-of-requires write-requires returns)

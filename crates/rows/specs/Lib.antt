@@ -1,0 +1,4 @@
+pub mod Table
+pub mod Words
+pub mod internal
+pub mod Laws
