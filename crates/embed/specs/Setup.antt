@@ -5,7 +5,8 @@ use mathlib.Core.Path.{_≡_}
 use lib.Seq.{sets}
 use Rattle.sheet.specs.declared.reader.Answer.{Answer}
 use Rattle.sheet.specs.declared.reader.Answer.the-variants.{Read, Refused}
-use Rattle.sheet.specs.Sheet.{sheetRefusal, refusedLine, sheetAnswer, sheetMemory, sheetStamps}
+use Rattle.loader.specs.Setup.{sheetMemory, sheetStamps}
+use Rattle.sheet.specs.Sheet.{sheetRefusal, refusedLine, sheetAnswer}
 use Rattle.numbers.specs.State.{layoutFields}
 use Rattle.embed.specs.Kept.{unlessRefused}
 

@@ -2,11 +2,11 @@
 ghost use Rattle.embed.specs.Setup.{setupRoom, SheetReturns};
 use base::limits::MEMORY_BYTES;
 use base::limits::MOST_STAMPS;
+use loader::load::load_memory;
+use loader::load::load_stamps;
 use numbers::state::layout_fields;
 use sheet::reader::Answer;
 use sheet::reader::read_sheet;
-use sheet::setup::load_memory;
-use sheet::setup::load_stamps;
 
 // What a sheet sets up: memory, stamps and their count, layout, budget. A refusal alters only `line`, which tells its line.
 #[no_mangle]
