@@ -8,8 +8,8 @@ use crate::stamps;
 use crate::world;
 use crate::world::World;
 use console::print;
-use lines::text::head;
-use lines::text::rest;
+use text::text::head;
+use text::text::rest;
 
 // The world with another state, by the part of the state that the line names.
 fn overwrite(w: World, l: Line) -> World {

@@ -10,7 +10,7 @@ use borrow.Author.Tests.{ne-eqb}
 use Rattle.base.specs.declared.refusal.Refusal.{Refusal}
 use Rattle.base.specs.Test.{if_then_else_}
 use Rattle.base.proofs.Tests.{if-false}
-use Rattle.lines.proofs.Finding.{from-here}
+use Rattle.text.proofs.Finding.{from-here}
 use Rattle.transcript.specs.Transcript.{decimalBytes}
 use Rattle.transcript.proofs.TranscriptLaws.{Put, put-then}
 use Rattle.explain.specs.Sentence.{lineLabel, refusalLabel, sentence, Explains}

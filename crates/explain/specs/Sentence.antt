@@ -9,7 +9,7 @@ use Rattle.base.specs.Test.{if_then_else_}
 use Rattle.base.specs.declared.refusal.Refusal.{Refusal}
 use Rattle.base.specs.declared.refusal.Refusal.the-variants.{Map, Fence, Timetable, Frame, Distance, Clock, Line, Sheet, Word}
 use Rattle.base.specs.Refusal.{refusalNumber}
-use Rattle.lines.specs.Text.{newline}
+use Rattle.text.specs.Text.{newline}
 use Rattle.transcript.specs.Transcript.{decimalBytes, parts}
 
 -- `line `, the number, a colon and a space; nothing for the sheet as a whole, line 0

@@ -8,10 +8,10 @@ use crate::reason::Reason;
 use crate::reason::plain;
 use crate::reason::quoting;
 use base::word::is_even;
-use lines::number::Hex;
-use lines::number::read_hex;
-use lines::text::head;
-use lines::text::holds_byte;
+use text::number::Hex;
+use text::number::read_hex;
+use text::text::head;
+use text::text::holds_byte;
 
 // The line before this one is a G line.
 fn follows_budget(sheet: &[u8], line: u64) -> bool {

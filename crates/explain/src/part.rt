@@ -1,6 +1,6 @@
 // The lines and fields of a sheet.
-use lines::text::head;
-use lines::text::rest;
+use text::text::head;
+use text::text::rest;
 
 // What stands after the first bytes b, so many of them, or after the last if there are fewer.
 pub(crate) fn skip<'a>(text: &'a [u8], b: u8, count: u64) -> &'a [u8] {

@@ -4,8 +4,8 @@ ghost use Rattle.explain.specs.internal.Reason.{reasonEnd, Wrote};
 use crate::part::field;
 use crate::part::line_at;
 use crate::text::put_five;
-use lines::text::head;
-use lines::text::rest;
+use text::text::head;
+use text::text::rest;
 
 // A field of a line.
 pub struct Place {

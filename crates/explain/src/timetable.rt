@@ -9,10 +9,10 @@ use crate::reason::quoting;
 use crate::reason::quoting_two;
 use base::limits::LAST_CLOCK;
 use base::limits::MOST_STAMPS;
-use lines::number::Decimal;
-use lines::number::read_decimal;
-use lines::text::head;
-use lines::text::rest;
+use text::number::Decimal;
+use text::number::read_decimal;
+use text::text::head;
+use text::text::rest;
 
 // The A lines so far, as many as a timetable takes: how many, and the number of the last one, 0 where there is none.
 struct Stamps {

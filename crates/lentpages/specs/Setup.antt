@@ -3,11 +3,12 @@ use Prim.Native.Nat.{ℕ}
 use mathlib.Core.List.{List, []}
 use mathlib.Core.Path.{_≡_}
 use lib.Seq.{sets}
+use Rattle.base.specs.Kept.{unlessRefused}
 use Rattle.sheet.specs.declared.reader.Answer.{Answer}
 use Rattle.sheet.specs.declared.reader.Answer.the-variants.{Read, Refused}
-use Rattle.sheet.specs.Sheet.{sheetRefusal, refusedLine, sheetAnswer, sheetMemory, sheetStamps}
+use Rattle.loader.specs.Setup.{sheetMemory, sheetStamps}
+use Rattle.sheet.specs.Sheet.{sheetRefusal, refusedLine, sheetAnswer}
 use Rattle.lentlayout.specs.Layout.{layoutFields}
-use Rattle.base.specs.Kept.{unlessRefused}
 
 -- the five addresses; none of a refusal
 abbrev pub setLayout : Answer → List ℕ

@@ -3,10 +3,10 @@ ghost use Rattle.lentpages.specs.Setup.{setupRoom, SheetReturns};
 use base::limits::MEMORY_BYTES;
 use base::limits::MOST_STAMPS;
 use lentlayout::numbers::layout_fields;
+use loader::load::load_memory;
+use loader::load::load_stamps;
 use sheet::reader::Answer;
 use sheet::reader::read_sheet;
-use sheet::setup::load_memory;
-use sheet::setup::load_stamps;
 
 // What a sheet sets up: memory, stamps and their count, layout, budget. A refusal alters only `line`, which tells its line.
 pub fn read_sheet_lent(

@@ -1,4 +1,1 @@
-pub mod Text
-pub mod Number
 pub mod Line
-pub mod internal

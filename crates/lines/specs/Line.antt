@@ -6,17 +6,17 @@ use lib.ListN.{length, getD}
 use Rattle.base.specs.Test.{if_then_else_}
 use Rattle.base.specs.Word.{isEven}
 use Rattle.layout.specs.declared.sections.Span.{Span}
-use Rattle.lines.specs.declared.number.Hex.{Hex}
-use Rattle.lines.specs.declared.number.Hex.the-variants.{Parsed as HexIs, Unreadable as NoHex}
-use Rattle.lines.specs.declared.number.Decimal.{Decimal}
-use Rattle.lines.specs.declared.number.Decimal.the-variants.{Parsed as DecimalIs, Unreadable as NoDecimal}
+use Rattle.text.specs.declared.number.Hex.{Hex}
+use Rattle.text.specs.declared.number.Hex.the-variants.{Parsed as HexIs, Unreadable as NoHex}
+use Rattle.text.specs.declared.number.Decimal.{Decimal}
+use Rattle.text.specs.declared.number.Decimal.the-variants.{Parsed as DecimalIs, Unreadable as NoDecimal}
 use Rattle.lines.specs.declared.line.Part.{Part}
 use Rattle.lines.specs.declared.line.Part.the-variants.{Parsed as PartIs, Unreadable as NoPart}
 use Rattle.lines.specs.declared.line.Content.the-variants.{Layout, Word, Stamp, Budget}
 use Rattle.lines.specs.declared.line.Line.{Line}
 use Rattle.lines.specs.declared.line.Line.the-variants.{Parsed, Unreadable}
-use Rattle.lines.specs.Text.{tab, head, rest}
-use Rattle.lines.specs.Number.{hexOf, decimalOf}
+use Rattle.text.specs.Text.{tab, head, rest}
+use Rattle.text.specs.Number.{hexOf, decimalOf}
 
 -- two addresses
 abbrev pub spanned : Hex → Hex → Part

@@ -1,15 +1,15 @@
 // What a line of the sheet says.
 ghost use mathlib.Core.Path.{_≡_};
 ghost use Rattle.lines.specs.Line.{spanOf, layoutLine, wordLine, stampLine, budgetLine, parseLine};
-use crate::number::Decimal;
-use crate::number::Hex;
-use crate::number::read_decimal;
-use crate::number::read_hex;
-use crate::text::head;
-use crate::text::rest;
 use base::word::is_even;
 use layout::sections::Layout;
 use layout::sections::Span;
+use text::number::Decimal;
+use text::number::Hex;
+use text::number::read_decimal;
+use text::number::read_hex;
+use text::text::head;
+use text::text::rest;
 
 // What a line says: a layout, a word in memory, a stamp of the timetable, the budget.
 pub enum Content {

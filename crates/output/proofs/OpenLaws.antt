@@ -24,7 +24,8 @@ use Rattle.definition.proofs.frame.FrameLaws.{ready-at-start}
 use Rattle.sheet.specs.declared.reader.Setup.{Setup}
 use Rattle.sheet.specs.declared.reader.Answer.{Answer}
 use Rattle.sheet.specs.declared.reader.Answer.the-variants.{Read, Refused}
-use Rattle.sheet.specs.Sheet.{sheetAnswer, sheetMemory, sheetStamps}
+use Rattle.loader.specs.Setup.{sheetMemory, sheetStamps}
+use Rattle.sheet.specs.Sheet.{sheetAnswer}
 use Rattle.sheet.specs.Laws.{ReadIsRunnable}
 use Rattle.sheet.proofs.RunnableLaws.{read-is-runnable}
 use Rattle.transcript.specs.Transcript.{headerLine}

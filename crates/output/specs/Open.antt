@@ -12,7 +12,8 @@ use Rattle.definition.specs.Setting.{Setting, settingOf}
 use Rattle.definition.specs.State.{start}
 use Rattle.sheet.specs.declared.reader.Answer.{Answer}
 use Rattle.sheet.specs.declared.reader.Answer.the-variants.{Read, Refused}
-use Rattle.sheet.specs.Sheet.{sheetAnswer, sheetMemory, sheetStamps}
+use Rattle.loader.specs.Setup.{sheetMemory, sheetStamps}
+use Rattle.sheet.specs.Sheet.{sheetAnswer}
 use Rattle.transcribe.specs.declared.progress.Remaining.{Remaining}
 use Rattle.transcribe.specs.declared.progress.Remaining.the-variants.{RefusalLine, Header}
 use Rattle.transcribe.specs.declared.progress.Transcript.{Transcript}

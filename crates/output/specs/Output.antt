@@ -5,7 +5,8 @@ use Rattle.definition.specs.Setting.{Setting, settingOf}
 use Rattle.definition.specs.State.{world, start}
 use Rattle.sheet.specs.declared.reader.Answer.{Answer}
 use Rattle.sheet.specs.declared.reader.Answer.the-variants.{Read, Refused}
-use Rattle.sheet.specs.Sheet.{sheetAnswer, sheetMemory, sheetStamps}
+use Rattle.loader.specs.Setup.{sheetMemory, sheetStamps}
+use Rattle.sheet.specs.Sheet.{sheetAnswer}
 use Rattle.transcript.specs.Transcript.{headerLine, refusalLine}
 use Rattle.transcribe.specs.Transcribe.{stepsText}
 

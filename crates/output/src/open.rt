@@ -8,11 +8,11 @@ use base::limits::MEMORY_BYTES;
 use base::limits::MOST_STAMPS;
 use layout::sections::Layout;
 use layout::sections::Span;
+use loader::load::load_memory;
+use loader::load::load_stamps;
 use machine::calls::Machine;
 use sheet::reader::Answer;
 use sheet::reader::read_sheet;
-use sheet::setup::load_memory;
-use sheet::setup::load_stamps;
 use transcribe::progress::Remaining;
 use transcribe::progress::Transcript;
 

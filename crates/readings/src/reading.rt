@@ -2,14 +2,14 @@
 use base::limits::MEMORY_BYTES;
 use console::print;
 use definition::answer::RunAnswer;
-use lines::text::head;
-use lines::text::rest;
+use loader::load::load_memory;
+use loader::load::load_stamps;
 use machine::calls::Machine;
 use sheet::reader::Answer;
 use sheet::reader::Setup;
 use sheet::reader::read_sheet;
-use sheet::setup::load_memory;
-use sheet::setup::load_stamps;
+use text::text::head;
+use text::text::rest;
 use transcript::line::end_line;
 use transcript::line::refusal_line;
 

@@ -25,9 +25,10 @@ use Rattle.sheet.specs.declared.reader.Answer.the-variants.{Read, Refuse
 use Rattle.sheet.specs.declared.reader.Stage.{Stage}
 use Rattle.sheet.specs.declared.reader.Stage.the-variants.{Goes, Stops}
 use Rattle.lines.specs.Line.{parseLine}
-use Rattle.sheet.specs.Sheet.{pieces, noneFollows, nothingFollows, fitsTimetable, budgetAnswer, stageOf, unlessStopped, ifParsed, bodyFrom, firstOf, ifLayout, linesAnswer, sheetAnswer, stampOf, stampsFrom, sheetStamps}
+use Rattle.sheet.specs.Sheet.{noneFollows, nothingFollows, fitsTimetable, budgetAnswer, stageOf, unlessStopped, ifParsed, bodyFrom, firstOf, ifLayout, linesAnswer, sheetAnswer}
+use Rattle.loader.specs.Setup.{pieces, stampOf, stampsFrom, sheetStamps}
 use Rattle.sheet.specs.Laws.{Runnable, ReadIsRunnable}
-use Rattle.sheet.proofs.SheetLaws.{empty-line}
+use Rattle.loader.proofs.SetupLaws.{empty-line}
 
 -- what an answer must keep: if it is a setup, it is of this layout, and what the lines add to the stamps so far fits it
 record Adds (L : Layout) (last count : ℕ) (stamps : List ℕ) (setup : Setup) : Type 0 where

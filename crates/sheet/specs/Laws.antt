@@ -9,7 +9,8 @@ use Rattle.layout.specs.Rules.{accepted}
 use Rattle.definition.specs.Calls.{timetable}
 use Rattle.sheet.specs.declared.reader.Setup.{Setup}
 use Rattle.sheet.specs.declared.reader.Answer.the-variants.{Read}
-use Rattle.sheet.specs.Sheet.{sheetAnswer, sheetStamps}
+use Rattle.sheet.specs.Sheet.{sheetAnswer}
+use Rattle.loader.specs.Setup.{sheetStamps}
 
 -- a setup that the machine takes: its layout, its timetable, as many stamps as it says, its budget
 pub record Runnable (setup : Setup) (stamps : List ℕ) : Type 0 where

@@ -3,15 +3,14 @@ use Prim.Native.Nat.{ℕ, _+_}
 use mathlib.Core.Path.{_≡_}
 use mathlib.Core.Bool.{Bool, true, false}
 use mathlib.Core.List.{List, [], _∷_}
-use lib.Dec.{eqb, ltb, leb}
-use lib.ListN.{length, replicate}
+use lib.Dec.{ltb, leb}
+use lib.ListN.{length}
 use Rattle.base.specs.Test.{if_then_else_, all}
 use Rattle.base.specs.declared.refusal.Refusal.the-variants.{Fence, Timetable, Distance, Line as LineRefusal, Sheet as TooLong}
-use Rattle.base.specs.Limits.{memoryBytes, lastClock, mostStamps, mostBudget, mostSheetBytes}
+use Rattle.base.specs.Limits.{lastClock, mostStamps, mostBudget, mostSheetBytes}
 use Rattle.base.specs.Refusal.{refusalNumber}
 use Rattle.layout.specs.declared.sections.Layout.{Layout}
 use Rattle.layout.specs.Rules.{accepted}
-use Rattle.definition.specs.Memory.{putWord}
 use Rattle.lines.specs.declared.line.Content.{Content}
 use Rattle.lines.specs.declared.line.Content.the-variants.{Layout as Layouts, Word, Stamp, Budget}
 use Rattle.lines.specs.declared.line.Line.{Line}
@@ -22,20 +21,10 @@ use Rattle.sheet.specs.declared.reader.First.{First}
 use Rattle.sheet.specs.declared.reader.First.the-variants.{IsLayout, NoLayout}
 use Rattle.sheet.specs.declared.reader.Stage.{Stage}
 use Rattle.sheet.specs.declared.reader.Stage.the-variants.{Goes, Stops}
-use Rattle.lines.specs.Text.{newline}
 use Rattle.lines.specs.Line.{parseLine}
+use Rattle.loader.specs.Setup.{pieces}
 
 -- ---- lines
-
--- a byte put before the first piece
-abbrev pub prepended : ℕ → List (List ℕ) → List (List ℕ)
-prepended x [] = (x ∷ []) ∷ []
-prepended x (p ∷ ps) = (x ∷ p) ∷ ps
-
--- the pieces of a text between its newlines: each is a line but the last, which follows the last newline
-unfoldable pub pieces : List ℕ → List (List ℕ)
-pieces [] = [] ∷ []
-pieces (x ∷ xs) = if eqb x newline then [] ∷ pieces xs else prepended x (pieces xs)
 
 -- no piece follows
 abbrev pub noneFollows : List (List ℕ) → Bool
@@ -127,39 +116,3 @@ pub record SheetPromise (sheet : List ℕ) (answer : Answer) : Type 0 where
   pub result : answer ≡ sheetAnswer sheet
   pub number : sheetRefusal answer ≡ sheetRefusal (sheetAnswer sheet)
   pub line : refusedLine answer ≡ refusedLine (sheetAnswer sheet)
-
--- ---- the setup
-
--- later M lines win
-abbrev pub lineStored : Line → List ℕ → List ℕ
-lineStored Unreadable mem = mem
-lineStored (Parsed (Layouts L)) mem = mem
-lineStored (Parsed (Word a w)) mem = putWord mem a w
-lineStored (Parsed (Stamp s)) mem = mem
-lineStored (Parsed (Budget b)) mem = mem
-
--- the M lines in order
-unfoldable pub memoryFrom : List ℕ → List (List ℕ) → List ℕ
-memoryFrom mem [] = mem
-memoryFrom mem (p ∷ ps) = memoryFrom (lineStored (parseLine p) mem) ps
-
--- other memory is 0
-unfoldable pub sheetMemory : List ℕ → List ℕ
-sheetMemory sheet = memoryFrom (replicate memoryBytes 0) (pieces sheet)
-
--- the stamps of the A lines, in order
-abbrev pub stampOf : Line → List ℕ → List ℕ
-stampOf Unreadable ss = ss
-stampOf (Parsed (Layouts L)) ss = ss
-stampOf (Parsed (Word a w)) ss = ss
-stampOf (Parsed (Stamp s)) ss = s ∷ ss
-stampOf (Parsed (Budget b)) ss = ss
-
--- of every line
-unfoldable pub stampsFrom : List (List ℕ) → List ℕ
-stampsFrom [] = []
-stampsFrom (p ∷ ps) = stampOf (parseLine p) (stampsFrom ps)
-
--- the timetable of a sheet
-unfoldable pub sheetStamps : List ℕ → List ℕ
-sheetStamps sheet = stampsFrom (pieces sheet)

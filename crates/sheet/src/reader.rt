@@ -7,7 +7,8 @@ ghost use Rattle.base.specs.Test.{if_then_else_};
 ghost use Rattle.base.specs.declared.refusal.Refusal.the-variants.{Timetable as TIMETABLE, Line as LINE};
 ghost use Rattle.sheet.specs.declared.reader.Answer.the-variants.{Refused as REFUSED};
 ghost use Rattle.sheet.specs.declared.reader.Stage.the-variants.{Goes as GOES, Stops as STOPS};
-ghost use Rattle.sheet.specs.Sheet.{pieces, fitsTimetable, budgetAnswer, stageOf, unlessStopped, bodyFrom, firstOf, SheetPromise};
+ghost use Rattle.loader.specs.Setup.{pieces};
+ghost use Rattle.sheet.specs.Sheet.{fitsTimetable, budgetAnswer, stageOf, unlessStopped, bodyFrom, firstOf, SheetPromise};
 use base::limits::LAST_CLOCK;
 use base::limits::MOST_BUDGET;
 use base::limits::MOST_SHEET_BYTES;
@@ -17,9 +18,9 @@ use layout::sections::Layout;
 use lines::line::Content;
 use lines::line::Line;
 use lines::line::read_line;
-use lines::text::head;
-use lines::text::holds_byte;
-use lines::text::rest;
+use text::text::head;
+use text::text::holds_byte;
+use text::text::rest;
 
 // What a sheet sets up: the layout, how many stamps the timetable has, the budget.
 pub struct Setup {

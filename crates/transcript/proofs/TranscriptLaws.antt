@@ -10,7 +10,7 @@ use lib.Seq.{sets, drop-cons, drop-set-lt, getD-set-same}
 use borrow.Author.Tests.{eq-eqb, ne-eqb}
 use Rattle.base.specs.Test.{if_then_else_}
 use Rattle.base.proofs.Tests.{if-true, if-false}
-use Rattle.lines.specs.Text.{tab}
+use Rattle.text.specs.Text.{tab}
 use Rattle.transcript.specs.Transcript.{decimalFrom, decimalBytes, hexBytes}
 
 -- bytes put behind bytes

@@ -8,7 +8,7 @@ use Rattle.base.specs.Refusal.{refusalNumber}
 use Rattle.definition.specs.declared.answer.Outcome.{Outcome}
 use Rattle.definition.specs.declared.answer.End.{End}
 use Rattle.definition.specs.Outcome.{kindLetter, endLetter}
-use Rattle.lines.specs.Text.{tab, newline}
+use Rattle.text.specs.Text.{tab, newline}
 
 -- the last of at most n digits before those that stand already
 unfoldable pub decimalFrom : ℕ → ℕ → List ℕ → List ℕ

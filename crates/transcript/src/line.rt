@@ -4,7 +4,7 @@ ghost use mathlib.Core.List.{[], _∷_};
 ghost use Prim.Native.Nat.{_+_, _≤_};
 ghost use lib.ListN.{length, drop, set};
 ghost use lib.Seq.{sets};
-ghost use Rattle.lines.specs.Text.{tab};
+ghost use Rattle.text.specs.Text.{tab};
 ghost use Rattle.transcript.specs.Transcript.{decimalBytes, hexByte, hexBytes, headerLine, stepLine, endLine, refusalLine};
 use base::refusal::Refusal;
 use definition::answer::End;

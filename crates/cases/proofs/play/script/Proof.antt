@@ -1,8 +1,8 @@
 use mathlib.Core.Path.{_≡_}
 use denote.Ref.{now}
 use lib.ListN.{length}
-use Rattle.lines.specs.Text.{newline}
-use Rattle.lines.proofs.Finding.{rest-less}
+use Rattle.text.specs.Text.{newline}
+use Rattle.text.proofs.Finding.{rest-less}
 use borrow.Author.Needs.{needs}
 use Rattle.cases.proofs.play.script.Statement.{statement}
 use Rattle.cases.proofs.play.script.Tie as tie

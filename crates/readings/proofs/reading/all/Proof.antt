@@ -2,8 +2,8 @@ use mathlib.Core.Path.{_≡_}
 use native.Mathlib.Omega.{arith}
 use denote.Ref.{now}
 use lib.ListN.{length}
-use Rattle.lines.specs.Text.{rest}
-use Rattle.lines.proofs.Finding.{rest-within, rest-less}
+use Rattle.text.specs.Text.{rest}
+use Rattle.text.proofs.Finding.{rest-within, rest-less}
 use borrow.Author.Needs.{needs}
 use Rattle.readings.proofs.reading.all.Statement.{statement}
 use Rattle.readings.proofs.reading.all.Tie as tie

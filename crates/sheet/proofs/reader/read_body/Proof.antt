@@ -4,7 +4,8 @@ use native.Mathlib.Omega.{arith}
 use denote.Ref.{now}
 use lib.ListN.{length}
 use borrow.Author.Tests.{ltb-true, ltb-false}
-use Rattle.sheet.specs.Sheet.{pieces, bodyFrom}
+use Rattle.loader.specs.Setup.{pieces}
+use Rattle.sheet.specs.Sheet.{bodyFrom}
 use Rattle.sheet.proofs.SheetLaws.{rest-shorter, body-last, body-unreadable, body-stops, body-goes}
 use borrow.Author.Needs.{needs}
 use Rattle.sheet.proofs.reader.read_body.Statement.{statement}

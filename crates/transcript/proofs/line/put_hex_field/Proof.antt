@@ -1,7 +1,7 @@
 use mathlib.Core.Path.{refl}
 use Prim.Native.Nat.{_/_, _%_}
 use denote.Ref.{now}
-use Rattle.lines.specs.Text.{tab}
+use Rattle.text.specs.Text.{tab}
 use Rattle.transcript.specs.Transcript.{hexByte, hexBytes}
 use Rattle.transcript.proofs.TranscriptLaws.{byte-put, put-then}
 use borrow.Author.Needs.{needs}

@@ -3,7 +3,7 @@ use native.Mathlib.Omega.{arith}
 use native.Mathlib.Nat.{zero-add}
 use denote.Ref.{now}
 use Rattle.base.specs.Refusal.{refusalNumber}
-use Rattle.lines.specs.Text.{tab, newline}
+use Rattle.text.specs.Text.{tab, newline}
 use Rattle.transcript.specs.Transcript.{refusalLine}
 use Rattle.transcript.proofs.TranscriptLaws.{byte-put, decimal-put, put-then}
 use borrow.Author.Needs.{needs}
