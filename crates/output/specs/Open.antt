@@ -13,8 +13,8 @@ use Rattle.definition.specs.State.{start}
 use Rattle.sheet.specs.declared.reader.Answer.{Answer}
 use Rattle.sheet.specs.declared.reader.Answer.the-variants.{Read, Refused}
 use Rattle.sheet.specs.Sheet.{sheetAnswer, sheetMemory, sheetStamps}
-use Rattle.transcribe.specs.declared.progress.Remaining.{Remaining}
-use Rattle.transcribe.specs.declared.progress.Remaining.the-variants.{RefusalLine, Header}
+use Rattle.steplines.specs.declared.remaining.Remaining.{Remaining}
+use Rattle.steplines.specs.declared.remaining.Remaining.the-variants.{RefusalLine, Header}
 use Rattle.transcribe.specs.declared.progress.Transcript.{Transcript}
 use Rattle.transcribe.specs.Promise.{fillTests, textLeft}
 use Rattle.output.specs.declared.open.SheetRun.{SheetRun}

@@ -7,8 +7,8 @@ use Rattle.definition.specs.declared.state.State.{State}
 use Rattle.definition.specs.Run.{stepOf}
 use Rattle.inplace.proofs.RanLaws.{ran-one}
 use Rattle.inplace.proofs.InPlaceLaws.{fast-ran, burst-none, burst-some, full-gives, can-pass-at}
-use Rattle.transcribe.proofs.steps.line_step.Statement.{statement}
-use Rattle.transcribe.proofs.steps.line_step.Tie as tie
+use Rattle.steplines.proofs.steps.line_step.Statement.{statement}
+use Rattle.steplines.proofs.steps.line_step.Tie as tie
 
 element-copy-out-fast-until : tie.Need-element-copy-out-fast-until
 element-copy-out-fast-until c = search needs

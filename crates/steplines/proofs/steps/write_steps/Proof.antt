@@ -8,11 +8,11 @@ use Rattle.definition.specs.Setting.{settingOf}
 use Rattle.definition.specs.Registers.{register}
 use Rattle.definition.specs.State.{world}
 use Rattle.act.specs.Control.{withRegisters}
-use Rattle.transcribe.specs.internal.Course.{goesOn}
-use Rattle.transcribe.proofs.CourseLaws.{course-told}
-use Rattle.transcribe.proofs.PageLaws.{PageKeeps, page-first, page-length, page-next, page-ends-full, page-passed, page-ends}
-use Rattle.transcribe.proofs.steps.write_steps.Statement.{statement}
-use Rattle.transcribe.proofs.steps.write_steps.Tie as tie
+use Rattle.steplines.specs.internal.Course.{goesOn}
+use Rattle.steplines.proofs.CourseLaws.{course-told}
+use Rattle.steplines.proofs.PageLaws.{PageKeeps, page-first, page-length, page-next, page-passed, page-ends, page-ends-none}
+use Rattle.steplines.proofs.steps.write_steps.Statement.{statement}
+use Rattle.steplines.proofs.steps.write_steps.Tie as tie
 
 abbrev Inv-loop : tie.InvT-loop
 Inv-loop registers₀ saved₀ mem₀ layout stamps made budget out₀ start current₀ upcoming₀ steps₀ filled₀ registers saved mem out current upcoming steps filled =
@@ -23,13 +23,20 @@ abbrev μ-loop : tie.MeasureT-loop
 μ-loop registers₀ saved₀ mem₀ layout stamps made budget out₀ start current₀ upcoming₀ steps₀ filled₀ registers saved mem out current upcoming steps filled =
     budget - steps
 
+no-room-requires : tie.Need-no-room-requires Inv-loop μ-loop
+no-room-requires c κs = search needs
+
+returns : tie.Need-returns Inv-loop μ-loop
+returns c timed here =
+    let past = c .before .if1 .taken in
+    absurd (omega arith)
+
 find-upcoming-requires : tie.Need-find-upcoming-requires Inv-loop μ-loop
 find-upcoming-requires c κs = search needs
 
 loop-holds : tie.Need-loop-holds Inv-loop μ-loop
 loop-holds c =
-    let p = c .before .before .before .before .pre in
-    page-first _ _ _ _ _ _ (p .1 .0) _ (c .find-upcoming .ensures (p .0))
+    page-first _ _ _ _ _ _ (c .before .if1 .left) _ (c .find-upcoming .ensures)
 
 sub-loop : tie.Need-sub-loop Inv-loop μ-loop
 sub-loop c =
@@ -57,10 +64,10 @@ same-length c = c .before .before .before .before .before .before .before .befor
 same-length-2 : tie.Need-same-length-2 Inv-loop μ-loop
 same-length-2 c = c .before .out .given ∙ page-length _ _ _ _ _ _ _ _ _ _ _ (c .before .before .before .before .before .before .before .before .loop .inv)
 
-returns : tie.Need-returns Inv-loop μ-loop
-returns c =
+returns-2 : tie.Need-returns-2 Inv-loop μ-loop
+returns-2 c timed here =
     let l = c .before .before .before .before .before .before .before .before .loop in
-    page-ends _ _ _ _ _ _ _ (l .registers) (l .saved) (l .mem) (l .current) _ _ _ (l .inv) (c .before .before .before .before .before .before .before .loop-test .taken) _
+    page-ends _ _ _ _ _ _ _ (l .registers) (l .saved) (l .mem) (l .current) _ _ _ (l .inv) timed (c .before .before .before .before .before .before .before .loop-test .taken) _
     (c .before .before .before .before .before .before .course-of .ensures) (ap goesOn (c .before .before .before .before .enum-told2 .given .1)) _ _ (c .before .before .last-line .ensures)
 
 line-step-requires : tie.Need-line-step-requires Inv-loop μ-loop
@@ -69,8 +76,7 @@ line-step-requires c κs = search needs
 add-steps : tie.Need-add-steps Inv-loop μ-loop
 add-steps c =
     let g = course-told _ _ _ _ (sym (c .before .before .before .before .before .before .before .before .before .course-of .ensures) ∙ c .before .before .before .before .before .before .before .enum-told .given .1) in
-    let p = c .before .before .before .before .before .before .before .before .before .before .before .before .before .before .before .before .pre in
-    let b = p .1 .1 in
+    let b = c .before .before .before .before .before .before .before .before .before .before .before .before .before .before .before .before .before .fits .budget .fits in
     let s = g .1 .1 in
     omega arith
 
@@ -98,22 +104,26 @@ loop-again : tie.Need-loop-again Inv-loop μ-loop
 unfolding register
 loop-again c =
     let l = c .before .before .before .before .before .before .before .before .before .before .before .before .before .before .before .before .before .before .loop in
-    let timed = c .before .before .before .before .before .before .before .before .before .before .before .before .before .before .before .before .before .before .before .before .before .before .before .pre .0 in
     let g = sym (c .before .before .before .before .before .before .before .before .before .before .before .before .before .before .before .before .course-of .ensures) ∙ c .before .before .before .before .before .before .before .before .before .before .before .before .before .before .enum-told .given .1 in
     let told = course-told _ _ _ _ g in
-    let s = c .before .before .before .before .before .before .before .before .before .before .line-step .ensures timed (told .1 .0) (l .inv .upcomingHere) in
     let p = c .before .before .before .put-step .ensures in
-    page-next _ _ _ _ _ _ _ _ _ _ _ (l .inv) (c .before .before .before .before .before .before .before .before .before .before .before .before .before .before .before .before .before .loop-test .taken) g _ _ _ s (c .before .before .before .before .before .before .before .before .before .mem .given) _ _ (p .1 .0)
-    (record { ends = p .0; lies = p .1 .1 }) _ (c .skip-passed .ensures timed (page-passed _ _ _ _ _ _ _ _ _ _ _ (l .inv) (told .0) _ _ _ s))
+    page-next _ _ _ _ _ _ _ _ _ _ _ (l .inv) (c .before .before .before .before .before .before .before .before .before .before .before .before .before .before .before .before .before .loop-test .taken) g _ _ _ (λ timed. c .before .before .before .before .before .before .before .before .before .before .line-step .ensures timed (told .1 .0) (l .inv .timed timed .upcomingHere))
+    (c .before .before .before .before .before .before .before .before .before .mem .given) _ _ (p .1 .0)
+    (record { ends = p .0; lies = p .1 .1 }) _ (λ timed. c .skip-passed .ensures timed (page-passed _ _ _ _ _ _ _ _ _ _ _ (l .inv) timed (told .0) _ _ _ (c .before .before .before .before .before .before .before .before .before .before .line-step .ensures timed (told .1 .0) (l .inv .timed timed .upcomingHere))))
+
+no-room-requires-2 : tie.Need-no-room-requires-2 Inv-loop μ-loop
+no-room-requires-2 c κs = search needs
 
 same-length-3 : tie.Need-same-length-3 Inv-loop μ-loop
-same-length-3 c = c .before .loop .inv .size
+same-length-3 c = c .before .before .loop .inv .size
 
 same-length-4 : tie.Need-same-length-4 Inv-loop μ-loop
-same-length-4 c = page-length _ _ _ _ _ _ _ _ _ _ _ (c .before .loop .inv)
+same-length-4 c = page-length _ _ _ _ _ _ _ _ _ _ _ (c .before .before .loop .inv)
 
-returns-2 : tie.Need-returns-2 Inv-loop μ-loop
-returns-2 c = page-ends-full _ _ _ _ _ _ _ _ _ _ _ (c .before .loop .inv) (c .loop-test .left)
+returns-3 : tie.Need-returns-3 Inv-loop μ-loop
+returns-3 c timed here =
+    let l = c .before .before .loop in
+    page-ends-none _ _ _ _ _ _ _ (l .registers) (l .saved) (l .mem) (l .current) _ _ _ (l .inv) timed (c .before .loop-test .left) _ (c .no-room2 .ensures)
 
 pub write-steps-spec : {M : Type 1} → statement M
 write-steps-spec =
@@ -121,6 +131,8 @@ write-steps-spec =
     (tie.spec
     Inv-loop
     μ-loop
+    no-room-requires
+    returns
     find-upcoming-requires
     loop-holds
     sub-loop
@@ -130,7 +142,7 @@ write-steps-spec =
     last-line-requires
     same-length
     same-length-2
-    returns
+    returns-2
     line-step-requires
     add-steps
     element-copy-out-put-step
@@ -139,6 +151,7 @@ write-steps-spec =
     skip-passed-requires
     loop-less
     loop-again
+    no-room-requires-2
     same-length-3
     same-length-4
-    returns-2)
+    returns-3)

@@ -11,12 +11,12 @@ ghost use Rattle.definition.specs.Run.{stepOf};
 ghost use Rattle.definition.specs.Calls.{timetable};
 ghost use Rattle.act.specs.Control.{withRegisters};
 ghost use Rattle.transcript.specs.Transcript.{stepLine, endLine};
-ghost use Rattle.transcribe.specs.Transcribe.{lineRoom, pageFrom};
-ghost use Rattle.transcribe.specs.internal.Course.{course};
-ghost use Rattle.transcribe.specs.internal.Written.{PageWritten, LastLine};
-ghost use Rattle.base.specs.Limits.{lastClock, mostBudget};
+ghost use Rattle.steplines.specs.Page.{lineRoom, pageFrom};
+ghost use Rattle.steplines.specs.internal.Course.{course};
+ghost use Rattle.steplines.specs.internal.Written.{PageWritten, LastLine, noRoom};
+ghost use Rattle.base.specs.Limits.{lastClock};
 ghost use Rattle.clock.specs.Upcoming.{IsUpcoming};
-use crate::progress::Remaining;
+use crate::remaining::Remaining;
 use act::control::Control;
 use base::limits::LAST_CLOCK;
 use clock::time::find_upcoming;
@@ -122,6 +122,18 @@ fn last_line(
     }
 }
 
+// Where there is no room for a line, steps remain.
+fn no_room(control: Control, steps: u64, filled: usize) -> StepsWritten
+    ensures { λ r. ⌜ r ≡ noRoom control steps filled ⌝ }
+{
+    StepsWritten {
+        control: control,
+        steps: steps,
+        filled: filled,
+        remaining: Remaining::Steps,
+    }
+}
+
 // The step of a line, fast if it can be. It is `one_step` once more: with two callers that one is not inlined into a step call, which then
 // takes half as long again (docs/DECISIONS.md, *The loop over step*).
 fn line_step(
@@ -164,7 +176,8 @@ fn line_step(
     }
 }
 
-// The lines of a run, from where it stands, behind what is filled. The index of the upcoming stamp goes along with the clock.
+// The lines of a run, from where it stands, behind what is filled: none where that is past the end of the buffer. The index of the upcoming
+// stamp goes along with the clock.
 pub fn write_steps(
     control: Control,
     registers: &mut [u16; 16],
@@ -177,9 +190,11 @@ pub fn write_steps(
     out: &mut [u8],
     start: usize,
 ) -> StepsWritten
-    requires { ⌜ (timetable (now stamps) ≡ true) × ((start ≤ length (now out)) × (budget ≤ mostBudget)) ⌝ }
-    ensures { λ r. ⌜ PageWritten (pageFrom (settingOf layout (now (stamps .entry))) (length (now (out .entry)) - start) made (budget - made) (world (withRegisters (now (registers .entry)) (now (saved .entry)) control) (now (mem .entry)))) (now (out .entry)) (now (out .exit)) start (r .filled) (r .steps) (world (withRegisters (now (registers .exit)) (now (saved .exit)) (r .control)) (now (mem .exit))) (r .remaining) ⌝ }
+    ensures { λ r. ⌜ (timetable (now (stamps .entry)) ≡ true → start ≤ length (now (out .entry)) → PageWritten (pageFrom (settingOf layout (now (stamps .entry))) (length (now (out .entry)) - start) made (budget - made) (world (withRegisters (now (registers .entry)) (now (saved .entry)) control) (now (mem .entry)))) (now (out .entry)) (now (out .exit)) start (r .filled) (r .steps) (world (withRegisters (now (registers .exit)) (now (saved .exit)) (r .control)) (now (mem .exit))) (r .remaining)) ⌝ }
 {
+    if start > out.len() {
+        return no_room(control, made, start);
+    }
     let mut current = control;
     let mut upcoming = find_upcoming(stamps, control.time.clock);
     let mut steps = made;
@@ -206,10 +221,5 @@ pub fn write_steps(
         filled = further;
         upcoming = skip_passed(stamps, upcoming, current.time.clock);
     }
-    StepsWritten {
-        control: current,
-        steps: steps,
-        filled: filled,
-        remaining: Remaining::Steps,
-    }
+    no_room(current, steps, filled)
 }

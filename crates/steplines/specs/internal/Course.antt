@@ -5,10 +5,10 @@ use lib.Dec.{leb, ltb}
 use Rattle.base.specs.Test.{if_then_else_}
 use Rattle.base.specs.Limits.{lastClock}
 use Rattle.definition.specs.State.{World}
-use Rattle.transcribe.specs.Transcribe.{Page, endPage}
+use Rattle.steplines.specs.Page.{Page, endPage}
 use Rattle.definition.specs.declared.answer.End.the-variants.{Halted, Clock, Spent}
-use Rattle.transcribe.specs.declared.steps.Course.{Course}
-use Rattle.transcribe.specs.declared.steps.Course.the-variants.{Goes, Stops}
+use Rattle.steplines.specs.declared.steps.Course.{Course}
+use Rattle.steplines.specs.declared.steps.Course.the-variants.{Goes, Stops}
 
 -- the ends in order: halted, the clock, the budget
 unfoldable pub course : Bool → ℕ → ℕ → ℕ → Course

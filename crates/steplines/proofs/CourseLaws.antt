@@ -9,8 +9,8 @@ use Rattle.base.specs.Test.{if_then_else_}
 use Rattle.base.specs.Limits.{lastClock}
 use Rattle.base.proofs.Tests.{if-true, if-false}
 use Rattle.definition.specs.declared.answer.End.the-variants.{Halted, Clock, Spent}
-use Rattle.transcribe.specs.declared.steps.Course.the-variants.{Goes, Stops}
-use Rattle.transcribe.specs.internal.Course.{course, goesOn}
+use Rattle.steplines.specs.declared.steps.Course.the-variants.{Goes, Stops}
+use Rattle.steplines.specs.internal.Course.{course, goesOn}
 
 -- the four ways through the tests
 module _ (halted : Bool) (clock steps budget : ℕ) where

@@ -1,9 +1,9 @@
 use mathlib.Core.List.{[]}
-use Rattle.transcribe.proofs.PageLaws.{last-none, last-end}
+use Rattle.steplines.proofs.PageLaws.{last-none, last-end}
 use native.Mathlib.Omega.{arith}
 use borrow.Author.Needs.{needs}
-use Rattle.transcribe.proofs.steps.last_line.Statement.{statement}
-use Rattle.transcribe.proofs.steps.last_line.Tie as tie
+use Rattle.steplines.proofs.steps.last_line.Statement.{statement}
+use Rattle.steplines.proofs.steps.last_line.Tie as tie
 
 enum-told : tie.Need-enum-told
 enum-told c = search needs

@@ -1,7 +1,7 @@
 -- The lines of a page, one after another: what each turn of the loop that writes them keeps. Assumes nothing.
 use Prim.Native.Nat.{ℕ, zero, suc, _+_, _-_, _≤_, _<_}
 use mathlib.Core.Bool.{Bool, true, false, true≢false}
-use mathlib.Core.Path.{_≡_, refl, sym, _∙_, ap}
+use mathlib.Core.Path.{_≡_, refl, sym, _∙_, ap, subst}
 use mathlib.Core.List.{List, [], _++_, append-assoc, append-nil}
 use native.Mathlib.Omega.{arith}
 use lib.Dec.{leb, ltb}
@@ -19,20 +19,21 @@ use Rattle.definition.specs.declared.state.State.{State}
 use Rattle.definition.specs.State.{World, world}
 use Rattle.definition.specs.Interrupt.{Step, gives}
 use Rattle.definition.specs.Run.{goes, stops, ending, worldAfter, stepOf}
+use Rattle.definition.specs.Calls.{timetable}
 use Rattle.act.specs.declared.control.Control.{Control}
 use Rattle.act.specs.Control.{withRegisters}
 use Rattle.definition.proofs.step.CycleLaws.{clock-rises}
-use Rattle.transcribe.specs.declared.steps.StepsWritten.{StepsWritten}
+use Rattle.steplines.specs.declared.steps.StepsWritten.{StepsWritten}
 use Rattle.transcript.specs.Transcript.{endLine}
 use Rattle.clock.specs.Upcoming.{StampsPassed, IsUpcoming}
 use Rattle.transcript.proofs.TranscriptLaws.{Put, put-then}
-use Rattle.transcribe.specs.declared.progress.Remaining.{Remaining}
-use Rattle.transcribe.specs.declared.progress.Remaining.the-variants.{Steps, Nothing}
-use Rattle.transcribe.specs.declared.steps.Course.{Course}
-use Rattle.transcribe.specs.declared.steps.Course.the-variants.{Goes, Stops}
-use Rattle.transcribe.specs.Transcribe.{lineRoom, lineOf, Page, emptyPage, behind, endPage, endOr, pageFrom}
-use Rattle.transcribe.specs.internal.Course.{course, byCourse, goesOn}
-use Rattle.transcribe.specs.internal.Written.{PageWritten, LastLine, lastText, lastRemaining}
+use Rattle.steplines.specs.declared.remaining.Remaining.{Remaining}
+use Rattle.steplines.specs.declared.remaining.Remaining.the-variants.{Steps, Nothing}
+use Rattle.steplines.specs.declared.steps.Course.{Course}
+use Rattle.steplines.specs.declared.steps.Course.the-variants.{Goes, Stops}
+use Rattle.steplines.specs.Page.{lineRoom, lineOf, Page, emptyPage, behind, endPage, endOr, pageFrom}
+use Rattle.steplines.specs.internal.Course.{course, byCourse, goesOn}
+use Rattle.steplines.specs.internal.Written.{PageWritten, LastLine, lastText, lastRemaining, noRoom}
 
 module _ (S : Setting) where
   -- the lines that follow where the run goes on
@@ -114,18 +115,28 @@ module _ (S : Setting) (start made budget : ℕ) (from : World) (entry : List �
   abbrev pub whole : Page
   whole = pageFrom S (length entry - start) made (budget - made) from
 
+  -- of a timetable: the upcoming stamp, and that what is left to write behind a text makes the whole page
+  pub record PageLeads (w : World) (steps filled upcoming : ℕ) (text : List ℕ) : Type 0 where
+    pub upcomingHere : IsUpcoming (S .stamps) (w .state .time .clock) upcoming
+    pub lands : whole ≡ behind text (pageFrom S (length entry - filled) steps (budget - steps) w)
+
   pub record PageKeeps (out : List ℕ) (w : World) (steps filled upcoming : ℕ) : Type 0 where
     pub size : length (w .memory) ≡ length (from .memory)
     pub fits : filled ≤ length entry
-    pub upcomingHere : IsUpcoming (S .stamps) (w .state .time .clock) upcoming
     pub text : List ℕ
     pub put : Put entry out start filled text
-    pub lands : whole ≡ behind text (pageFrom S (length entry - filled) steps (budget - steps) w)
+    pub timed : timetable (S .stamps) ≡ true → PageLeads w steps filled upcoming text
 
-  pub page-first : start ≤ length entry → (upcoming : ℕ) → IsUpcoming (S .stamps) (from .state .time .clock) upcoming
-      → PageKeeps entry from made start upcoming
+  pub page-first : start ≤ length entry → (upcoming : ℕ)
+      → (timetable (S .stamps) ≡ true → IsUpcoming (S .stamps) (from .state .time .clock) upcoming) → PageKeeps entry from made start upcoming
   page-first i upcoming h =
-      record { size = refl; fits = i; upcomingHere = h; text = []; put = record { ends = omega arith; lies = refl }; lands = refl }
+      record {
+        size = refl;
+        fits = i;
+        text = [];
+        put = record { ends = omega arith; lies = refl };
+        timed = λ q. record { upcomingHere = h q; lands = refl };
+      }
 
   module _ (out : List ℕ) (w : World) (steps filled upcoming : ℕ) (t : PageKeeps out w steps filled upcoming) where
     -- the buffer keeps its length
@@ -134,10 +145,10 @@ module _ (S : Setting) (start made budget : ℕ) (from : World) (entry : List �
 
     -- a line more
     pub page-next : lineRoom ≤ length out - filled → course (w .state .halted) (w .state .time .clock) steps budget ≡ Goes
-        → (m : State) (bytes : List ℕ) (o : Outcome) → gives m bytes o ≡ stepOf S w → length bytes ≡ length (w .memory)
-        → (further : List ℕ) (next : ℕ) → next ≤ length out
+        → (m : State) (bytes : List ℕ) (o : Outcome) → (timetable (S .stamps) ≡ true → gives m bytes o ≡ stepOf S w)
+        → length bytes ≡ length (w .memory) → (further : List ℕ) (next : ℕ) → next ≤ length out
         → Put out further filled next (lineOf (steps + 1) (gives m bytes o))
-        → (upcomingThen : ℕ) → IsUpcoming (S .stamps) (m .time .clock) upcomingThen
+        → (upcomingThen : ℕ) → (timetable (S .stamps) ≡ true → IsUpcoming (S .stamps) (m .time .clock) upcomingThen)
         → PageKeeps further (world m bytes) (steps + 1) next upcomingThen
     page-next i g m bytes o s b further next k p upcomingThen h =
         let l = page-length in
@@ -147,49 +158,54 @@ module _ (S : Setting) (start made budget : ℕ) (from : World) (entry : List �
         record {
           size = b ∙ t .size;
           fits = omega arith;
-          upcomingHere = h;
           text = t .text ++ line;
           put = put-then (t .put) p;
-          lands =
-              t .lands
-              ∙ ap (behind (t .text))
-              (page-course S (length entry - filled) steps budget w more
-              ∙ ap (byCourse steps w (furtherFrom S (length entry - filled) steps budget w)) g
-              ∙ ap (λ (z : Step). behind (lineOf (steps + 1) z) (pageFrom S (length entry - filled - length (lineOf (steps + 1) z)) (steps + 1) (budget - (steps + 1)) (worldAfter z))) (sym s)
-              ∙ ap (λ (z : ℕ). behind line (pageFrom S z (steps + 1) (budget - (steps + 1)) (world m bytes))) r)
-              ∙ behind-twice (t .text) line (pageFrom S (length entry - next) (steps + 1) (budget - (steps + 1)) (world m bytes));
+          timed =
+              λ q. record {
+                upcomingHere = h q;
+                lands =
+                    t .timed q .lands
+                    ∙ ap (behind (t .text))
+                    (page-course S (length entry - filled) steps budget w more
+                    ∙ ap (byCourse steps w (furtherFrom S (length entry - filled) steps budget w)) g
+                    ∙ ap (λ (z : Step). behind (lineOf (steps + 1) z) (pageFrom S (length entry - filled - length (lineOf (steps + 1) z)) (steps + 1) (budget - (steps + 1)) (worldAfter z))) (sym (s q))
+                    ∙ ap (λ (z : ℕ). behind line (pageFrom S z (steps + 1) (budget - (steps + 1)) (world m bytes))) r)
+                    ∙ behind-twice (t .text) line (pageFrom S (length entry - next) (steps + 1) (budget - (steps + 1)) (world m bytes));
+              };
         }
 
-    -- no room for a line
-    pub page-ends-full : length out - filled < lineRoom → PageWritten whole entry out start filled steps w Steps
-    page-ends-full i =
-        let l = page-length in
-        let e = t .lands ∙ ap (behind (t .text)) (page-full S (length entry - filled) steps (budget - steps) w (omega arith)) in
-        page-written whole entry out start filled steps w Steps (t .text ++ []) e (rw append-nil (t .put)) (t .fits)
+    module _ (timed : timetable (S .stamps) ≡ true) where
+      -- no room for a line
+      pub page-ends-full : length out - filled < lineRoom → PageWritten whole entry out start filled steps w Steps
+      page-ends-full i =
+          let l = page-length in
+          let e = t .timed timed .lands ∙ ap (behind (t .text)) (page-full S (length entry - filled) steps (budget - steps) w (omega arith)) in
+          page-written whole entry out start filled steps w Steps (t .text ++ []) e (rw append-nil (t .put)) (t .fits)
 
-    -- the end's line
-    pub page-ends-last : lineRoom ≤ length out - filled → (going : Course) → going ≡ course (w .state .halted) (w .state .time .clock) steps budget
-        → goesOn going ≡ false → (exit : List ℕ) (next : ℕ) → Put out exit filled next (lastText going steps (w .state .time .clock)) → next ≤ length out
-        → PageWritten whole entry exit start next steps w (lastRemaining going)
-    page-ends-last i going g f exit next p k =
-        let l = page-length in
-        let e = t .lands
-        ∙ ap (behind (t .text))
-        (page-course S (length entry - filled) steps budget w (omega arith)
-        ∙ ap (byCourse steps w (furtherFrom S (length entry - filled) steps budget w)) (sym g)
-        ∙ last-page steps w (furtherFrom S (length entry - filled) steps budget w) going f) in
-        page-written whole entry exit start next steps w (lastRemaining going) (t .text ++ lastText going steps (w .state .time .clock)) e (put-then (t .put) p) (omega arith)
+      -- the end's line
+      pub page-ends-last : lineRoom ≤ length out - filled → (going : Course) → going ≡ course (w .state .halted) (w .state .time .clock) steps budget
+          → goesOn going ≡ false → (exit : List ℕ) (next : ℕ) → Put out exit filled next (lastText going steps (w .state .time .clock)) → next ≤ length out
+          → PageWritten whole entry exit start next steps w (lastRemaining going)
+      page-ends-last i going g f exit next p k =
+          let l = page-length in
+          let e = t .timed timed .lands
+          ∙ ap (behind (t .text))
+          (page-course S (length entry - filled) steps budget w (omega arith)
+          ∙ ap (byCourse steps w (furtherFrom S (length entry - filled) steps budget w)) (sym g)
+          ∙ last-page steps w (furtherFrom S (length entry - filled) steps budget w) going f) in
+          page-written whole entry exit start next steps w (lastRemaining going) (t .text ++ lastText going steps (w .state .time .clock)) e (put-then (t .put) p) (omega arith)
 
-    -- the stamps before the upcoming one are passed after a step too
-    pub page-passed : w .state .halted ≡ false → (m : State) (bytes : List ℕ) (o : Outcome) → gives m bytes o ≡ stepOf S w
-        → StampsPassed (S .stamps) (m .time .clock) upcoming
-    page-passed h m bytes o s =
-        let r = clock-rises S (w .state) (w .memory) h in
-        let e : m .time .clock ≡ stepOf S w .state .time .clock = ap (λ (z : Step). z .state .time .clock) s in
-        record {
-          fits = t .upcomingHere .passed .fits;
-          gone = λ i j. let o = t .upcomingHere .passed .gone i j in omega arith;
-        }
+      -- the stamps before the upcoming one are passed after a step too
+      pub page-passed : w .state .halted ≡ false → (m : State) (bytes : List ℕ) (o : Outcome) → gives m bytes o ≡ stepOf S w
+          → StampsPassed (S .stamps) (m .time .clock) upcoming
+      page-passed h m bytes o s =
+          let here = t .timed timed .upcomingHere in
+          let r = clock-rises S (w .state) (w .memory) h in
+          let e : m .time .clock ≡ stepOf S w .state .time .clock = ap (λ (z : Step). z .state .time .clock) s in
+          record {
+            fits = here .passed .fits;
+            gone = λ i j. let o = here .passed .gone i j in omega arith;
+          }
 
 -- what the end's line leaves, by whether there is one
 module _ (going : Course) (c : Control) (steps : ℕ) (entry exit : List ℕ) (filled : ℕ) where
@@ -202,15 +218,17 @@ module _ (going : Course) (c : Control) (steps : ℕ) (entry exit : List ℕ) (f
       → LastLine going c steps entry exit filled (record { control = c; steps = steps; filled = next; remaining = Nothing })
   last-end end e next p = rw e (record { bytes = p .1 .1; ends = p .0; fits = p .1 .0; control = refl; count = refl; rest = refl })
 
--- the end's line behind the lines before it makes the page
+-- the page where the loop ends
 module _ (S : Setting) (start made budget : ℕ) (from : World) (entry out rs saved mem : List ℕ) (c : Control) (steps filled upcoming : ℕ)
-    (t : PageKeeps S start made budget from entry out (world (withRegisters rs saved c) mem) steps filled upcoming) where
+    (t : PageKeeps S start made budget from entry out (world (withRegisters rs saved c) mem) steps filled upcoming)
+    (timed : timetable (S .stamps) ≡ true) where
+  -- with the end's line behind the lines before it
   pub page-ends : lineRoom ≤ length out - filled → (going : Course) → going ≡ course (c .halted) (c .time .clock) steps budget
       → goesOn going ≡ false → (exit : List ℕ) (r : StepsWritten) → LastLine going c steps out exit filled r
       → PageWritten (whole S start made budget from entry) entry exit start (r .filled) (r .steps)
       (world (withRegisters rs saved (r .control)) mem) (r .remaining)
   page-ends i going g f exit r l =
-      let p = page-ends-last S start made budget from entry out (world (withRegisters rs saved c) mem) steps filled upcoming t
+      let p = page-ends-last S start made budget from entry out (world (withRegisters rs saved c) mem) steps filled upcoming t timed
       i going g f exit (r .filled) (record { ends = l .ends; lies = l .bytes }) (l .fits) in
       record {
         bytes = p .bytes;
@@ -220,3 +238,12 @@ module _ (S : Setting) (start made budget : ℕ) (from : World) (entry out rs sa
         world = ap (λ (z : Control). world (withRegisters rs saved z) mem) (l .control) ∙ p .world;
         rest = l .rest ∙ p .rest;
       }
+
+  -- without room for one more
+  pub page-ends-none : length out - filled < lineRoom → (r : StepsWritten) → r ≡ noRoom c steps filled
+      → PageWritten (whole S start made budget from entry) entry out start (r .filled) (r .steps)
+      (world (withRegisters rs saved (r .control)) mem) (r .remaining)
+  page-ends-none i r e =
+      subst (λ (z : StepsWritten). PageWritten (whole S start made budget from entry) entry out start (z .filled) (z .steps)
+      (world (withRegisters rs saved (z .control)) mem) (z .remaining)) (sym e)
+      (page-ends-full S start made budget from entry out (world (withRegisters rs saved c) mem) steps filled upcoming t timed i)

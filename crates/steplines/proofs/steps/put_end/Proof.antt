@@ -5,10 +5,10 @@ use denote.Ref.{now}
 use lib.ListN.{length}
 use borrow.Rule.Slice.PartMut.{putMid}
 use Rattle.transcript.specs.Transcript.{endLine}
-use Rattle.transcribe.proofs.PartLaws.{part-sets}
+use Rattle.steplines.proofs.PartLaws.{part-sets}
 use borrow.Author.Needs.{needs}
-use Rattle.transcribe.proofs.steps.put_end.Statement.{statement}
-use Rattle.transcribe.proofs.steps.put_end.Tie as tie
+use Rattle.steplines.proofs.steps.put_end.Statement.{statement}
+use Rattle.steplines.proofs.steps.put_end.Tie as tie
 
 sub-end-line : tie.Need-sub-end-line
 sub-end-line c = search needs

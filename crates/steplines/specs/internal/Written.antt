@@ -1,24 +1,19 @@
 -- What is written into a lent buffer, behind what is filled. No promise rests on it.
 use Prim.Native.Nat.{ℕ, _+_, _≤_}
 use mathlib.Core.List.{List, []}
-use mathlib.Core.Bool.{Bool, true, false}
 use mathlib.Core.Path.{_≡_}
 use lib.ListN.{length}
 use lib.Seq.{sets}
 use Rattle.definition.specs.State.{World}
-use Rattle.transcribe.specs.declared.progress.Remaining.{Remaining}
+use Rattle.steplines.specs.declared.remaining.Remaining.{Remaining}
 use Rattle.definition.specs.declared.answer.End.{End}
 use Rattle.act.specs.declared.control.Control.{Control}
 use Rattle.transcript.specs.Transcript.{endLine}
-use Rattle.transcribe.specs.declared.progress.Remaining.the-variants.{Header, Steps, Nothing}
-use Rattle.transcribe.specs.declared.steps.Course.{Course}
-use Rattle.transcribe.specs.declared.steps.Course.the-variants.{Goes, Stops}
-use Rattle.transcribe.specs.declared.steps.StepsWritten.{StepsWritten}
-use Rattle.base.specs.declared.verdict.Verdict.{Verdict}
-use Rattle.transcribe.specs.declared.progress.Transcript.{Transcript}
-use Rattle.transcribe.specs.declared.progress.Filled.{Filled}
-use Rattle.transcribe.specs.Transcribe.{Page}
-use Rattle.transcribe.specs.Promise.{transcriptAfter}
+use Rattle.steplines.specs.declared.remaining.Remaining.the-variants.{Steps, Nothing}
+use Rattle.steplines.specs.declared.steps.Course.{Course}
+use Rattle.steplines.specs.declared.steps.Course.the-variants.{Goes, Stops}
+use Rattle.steplines.specs.declared.steps.StepsWritten.{StepsWritten}
+use Rattle.steplines.specs.Page.{Page}
 
 -- a page that stands in the buffer from an index on: how far it is filled then, and what the page leaves
 pub record PageWritten (p : Page) (entry exit : List ℕ) (start filled steps : ℕ) (w : World) (remaining : Remaining) : Type 0 where
@@ -48,16 +43,6 @@ pub record LastLine (going : Course) (c : Control) (steps : ℕ) (entry exit : L
   pub count : r .steps ≡ steps
   pub rest : r .remaining ≡ lastRemaining going
 
--- the header and what follows it, or what follows it
-abbrev pub fromHeader : Bool → Remaining
-fromHeader true = Header
-fromHeader false = Steps
-
--- a page that a call filled, from an index on
-pub record PageFilled (p : Page) (v : Verdict) (t : Transcript) (r : Filled) (memThen entry exit : List ℕ) (start : ℕ) : Type 0 where
-  pub judged : r .verdict ≡ v
-  pub bytes : exit ≡ sets entry start (p .text)
-  pub written : r .written ≡ start + length (p .text)
-  pub fits : r .written ≤ length entry
-  pub transcript : r .transcript ≡ transcriptAfter t p
-  pub memory : memThen ≡ p .world .memory
+-- what is left where there is no room for a line
+abbrev pub noRoom : Control → ℕ → ℕ → StepsWritten
+noRoom c steps filled = record { control = c; steps = steps; filled = filled; remaining = Steps }

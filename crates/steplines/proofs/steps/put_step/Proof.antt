@@ -5,10 +5,10 @@ use denote.Ref.{now}
 use lib.ListN.{length}
 use borrow.Rule.Slice.PartMut.{putMid}
 use Rattle.transcript.specs.Transcript.{stepLine}
-use Rattle.transcribe.proofs.PartLaws.{part-sets}
+use Rattle.steplines.proofs.PartLaws.{part-sets}
 use borrow.Author.Needs.{needs}
-use Rattle.transcribe.proofs.steps.put_step.Statement.{statement}
-use Rattle.transcribe.proofs.steps.put_step.Tie as tie
+use Rattle.steplines.proofs.steps.put_step.Statement.{statement}
+use Rattle.steplines.proofs.steps.put_step.Tie as tie
 
 sub-step-line : tie.Need-sub-step-line
 sub-step-line c = search needs

@@ -1,7 +1,7 @@
 use mathlib.Core.Path.{sym}
-use Rattle.transcribe.proofs.CourseLaws.{course-halted, course-clock, course-spent, course-goes}
-use Rattle.transcribe.proofs.steps.course_of.Statement.{statement}
-use Rattle.transcribe.proofs.steps.course_of.Tie as tie
+use Rattle.steplines.proofs.CourseLaws.{course-halted, course-clock, course-spent, course-goes}
+use Rattle.steplines.proofs.steps.course_of.Statement.{statement}
+use Rattle.steplines.proofs.steps.course_of.Tie as tie
 
 returns : tie.Need-returns
 returns c = sym (course-halted _ _ _ _ (c .if1 .taken))
