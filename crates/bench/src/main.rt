@@ -9,7 +9,7 @@ use base::limits::MOST_STAMPS;
 use explain::sentence::explanation;
 use input::Input;
 use output::open::open_sheet;
-use transcribe::progress::Remaining;
+use steplines::remaining::Remaining;
 
 // A sheet that is one byte too long is still read whole, so that it is seen to be.
 const INPUT_BYTES: usize = MOST_SHEET_BYTES + 1;

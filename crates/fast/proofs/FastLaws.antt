@@ -25,15 +25,15 @@ use Rattle.definition.proofs.instruction.InstructionLaws.{unprivileged}
 use Rattle.definition.proofs.step.GieLaws.{set-gie}
 use Rattle.definition.proofs.step.StepLaws.{bytes, next, Runs, step-runs}
 use Rattle.definition.specs.declared.judge.Judged.{Judged}
-use Rattle.fast.specs.declared.effect.Effect.{Effect}
+use Rattle.effect.specs.declared.effect.Effect.{Effect}
 use Rattle.definition.specs.Memory.{wordAt}
 use Rattle.definition.specs.Registers.{pc, sr}
 use Rattle.definition.specs.Judge.{judgeFirst, judge}
-use Rattle.fast.specs.Effect.{fetchable}
+use Rattle.effect.specs.Effect.{affected, putIf}
 use Rattle.clock.specs.NoEvent.{later}
-use Rattle.fast.specs.Steps.{affected, putIf}
+use Rattle.fast.specs.Steps.{fetchable}
 use Rattle.definition.proofs.cause.JudgeLaws.{second-fails}
-use Rattle.fast.proofs.FastRows.{Acting}
+use Rattle.effect.proofs.FastRows.{Acting}
 
 -- what is fetched is judged from cause 3 on
 pub fetched-judged : (L : Layout) (held : Bool) (rs mem : List ℕ) (previous : ℕ) → fetchable L held previous (pc rs) ≡ true

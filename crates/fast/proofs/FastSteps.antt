@@ -21,8 +21,8 @@ use Rattle.definition.specs.declared.state.Time.{Time}
 use Rattle.act.specs.declared.control.Control.{Control}
 use Rattle.definition.specs.declared.state.State.{State}
 use Rattle.definition.specs.declared.answer.Outcome.the-variants.{Ran}
-use Rattle.fast.specs.declared.effect.Effect.{Effect}
-use Rattle.fast.specs.declared.effect.Speed.the-variants.{Fast}
+use Rattle.effect.specs.declared.effect.Effect.{Effect}
+use Rattle.effect.specs.declared.effect.Speed.the-variants.{Fast}
 use Rattle.definition.specs.Memory.{wordAt}
 use Rattle.definition.specs.Registers.{register, sr}
 use Rattle.definition.specs.State.{world, isHeld}
@@ -32,15 +32,15 @@ use Rattle.definition.specs.Interrupt.{gives}
 use Rattle.definition.specs.Step.{savedFor, step, judged}
 use Rattle.clock.specs.Upcoming.{clockRoom}
 use Rattle.clock.specs.NoEvent.{later, NoEventUntil}
-use Rattle.fast.specs.Effect.{fetchable}
-use Rattle.fast.specs.Steps.{putIf, FastState, fastState, fastAt, applied, mostFastCycles, FastSteps, noStep, oneMore, RanSteps, none, on, savedAfter}
+use Rattle.effect.specs.Effect.{putIf}
+use Rattle.fast.specs.Steps.{fetchable, FastState, fastState, fastAt, applied, mostFastCycles, FastSteps, noStep, oneMore, RanSteps, none, on, savedAfter}
 use Rattle.act.specs.Control.{withRegisters}
 use Rattle.definition.proofs.instruction.InstructionLaws.{cycles-range}
 use Rattle.definition.proofs.instruction.MemoryLaws.{put-length}
 use Rattle.clock.proofs.NoEventLaws.{no-event-later}
 use Rattle.fast.proofs.FastLaws.{fetched-judged, afterEffect, acting-gie-clear, acting-step}
-use Rattle.fast.proofs.FastRows.{Acting, EffectAgrees}
-use Rattle.fast.proofs.FastWords.{fast-agrees}
+use Rattle.effect.proofs.FastRows.{Acting}
+use Rattle.effect.proofs.FastWords.{acting-behind}
 
 -- ---- the saved copy
 
@@ -59,11 +59,10 @@ saved-on v saved k n e =
 
 module _ (L : Layout) (held : Bool) (s : FastState) (w : ℕ) (e : Effect) (does : fastAt L s w ≡ Fast e) where
   -- the instruction behind an effect
-  pub acting-at : Acting L held (s .registers) (s .memory) (begun w)
+  acting-at : Acting L held (s .registers) (s .memory) (begun w)
       (register (s .registers) (w / 256 % 16)) (register (s .registers) (w % 16)) e
   unfolding register
-  acting-at =
-      subst (EffectAgrees L held (s .registers) (s .memory) (begun w) _ _) does (fast-agrees L held (s .registers) (s .memory) w)
+  acting-at = acting-behind L held (s .registers) (s .memory) w e does
 
   pub effect-few : (1 ≤ e .cycles) × (e .cycles ≤ mostFastCycles)
   effect-few =

@@ -1,3 +1,2 @@
-pub mod Effect
 pub mod Steps
 pub mod Laws

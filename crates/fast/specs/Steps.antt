@@ -1,33 +1,34 @@
 -- Fast steps in a row: what each sets, and that steps of the definition lead from one world to another.
 use mathlib.Core.Path.{_≡_}
-use mathlib.Core.Bool.{Bool, true, false}
-use mathlib.Core.List.{List}
+use mathlib.Core.Bool.{Bool, true, false, not}
+use mathlib.Core.List.{List, [], _∷_}
 use Prim.Native.Nat.{ℕ, _+_, _/_, _%_, _≤_}
 use lib.Dec.{eqb}
 use lib.ListN.{getD, set}
-use Rattle.base.specs.Test.{if_then_else_}
+use Rattle.base.specs.Test.{if_then_else_, all}
 use Rattle.base.specs.Limits.{lastClock}
 use Rattle.layout.specs.declared.sections.Layout.{Layout}
+use Rattle.layout.specs.declared.access.Right.the-variants.{Execute as execute}
+use Rattle.layout.specs.Sections.{inside}
+use Rattle.layout.specs.Access.{may}
 use Rattle.definition.specs.Setting.{Setting}
 use Rattle.definition.specs.declared.state.SavedContext.{SavedContext}
 use Rattle.definition.specs.declared.answer.Outcome.the-variants.{Ran}
-use Rattle.fast.specs.declared.effect.Effect.{Effect}
-use Rattle.fast.specs.declared.effect.Speed.{Speed}
-use Rattle.fast.specs.declared.effect.Speed.the-variants.{Fast}
-use Rattle.definition.specs.Memory.{wordAt, putWord}
+use Rattle.effect.specs.declared.effect.Effect.{Effect}
+use Rattle.effect.specs.declared.effect.Speed.{Speed}
+use Rattle.effect.specs.declared.effect.Speed.the-variants.{Fast}
+use Rattle.definition.specs.Memory.{wordAt}
 use Rattle.definition.specs.State.{World}
 use Rattle.definition.specs.Interrupt.{gives}
 use Rattle.definition.specs.Step.{savedFor}
 use Rattle.definition.specs.Run.{stepOf}
-use Rattle.fast.specs.Effect.{fetchable, fastEffect}
+use Rattle.effect.specs.Effect.{putIf, fastEffect}
 
--- the registers that an effect sets: pc, one more, the status
-abbrev pub affected : Effect → List ℕ → List ℕ
-affected e rs = set (set (set rs 0 (e .to)) (e .number) (e .word)) 2 (e .status)
-
--- the word that is put, if one is
-unfoldable pub putIf : Bool → List ℕ → ℕ → ℕ → List ℕ
-putIf puts mem a w = if puts then putWord mem a w else mem
+-- the word at this address may be executed: causes 1 and 2 do not hold
+unfoldable pub fetchable : Layout → Bool → ℕ → ℕ → Bool
+fetchable L held previous a =
+    if not (may L previous execute a) then false
+    else not (all (inside L a ∷ held ∷ []))
 
 -- what fast steps change: the registers, the previous address, the clock and memory
 pub record FastState : Type 0 where

@@ -1,4 +1,3 @@
-// Fast steps: common instructions of which no interrupt can come, on registers that are changed where they lie.
-pub mod effect;
+// Fast steps: common instructions of which no interrupt can come, in a row, on registers that are changed where they lie.
 pub mod laws;
 pub mod steps;

@@ -12,10 +12,10 @@ use Rattle.base.specs.Verdict.{verdict, refusedBy}
 use Rattle.layout.specs.declared.sections.Layout.{Layout}
 use Rattle.definition.specs.Setting.{settingOf}
 use Rattle.definition.specs.declared.state.State.{State}
-use Rattle.transcribe.specs.declared.progress.Remaining.{Remaining}
+use Rattle.steplines.specs.declared.remaining.Remaining.{Remaining}
 use Rattle.transcribe.specs.declared.progress.Transcript.{Transcript}
 use Rattle.transcribe.specs.declared.progress.Filled.{Filled}
-use Rattle.transcribe.specs.Transcribe.{Page}
+use Rattle.steplines.specs.Page.{Page}
 use Rattle.transcribe.specs.Promise.{transcriptAfter, fillTests, pageCall, FillPromise}
 use Rattle.lentlayout.specs.Layout.{layoutOf}
 use Rattle.lentstate.specs.State.{Numbers, machineOf, numbersOf}

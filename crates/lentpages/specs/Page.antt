@@ -9,10 +9,10 @@ use Rattle.base.specs.Test.{if_then_else_}
 use Rattle.base.specs.declared.verdict.Verdict.{Verdict}
 use Rattle.base.specs.Verdict.{verdict, refusedBy}
 use Rattle.definition.specs.Setting.{settingOf}
-use Rattle.transcribe.specs.declared.progress.Remaining.{Remaining}
-use Rattle.transcribe.specs.declared.progress.Remaining.the-variants.{RefusalLine, Header, Steps, Nothing}
+use Rattle.steplines.specs.declared.remaining.Remaining.{Remaining}
+use Rattle.steplines.specs.declared.remaining.Remaining.the-variants.{RefusalLine, Header, Steps, Nothing}
 use Rattle.transcribe.specs.declared.progress.Transcript.{Transcript}
-use Rattle.transcribe.specs.Transcribe.{Page}
+use Rattle.steplines.specs.Page.{Page}
 use Rattle.transcribe.specs.Promise.{fillTests, pageCall}
 use Rattle.lentlayout.specs.Layout.{layoutOf}
 use Rattle.lentstate.specs.State.{Numbers, machineOf, numbersOf}

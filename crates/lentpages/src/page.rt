@@ -6,7 +6,7 @@ use base::verdict::Verdict;
 use lentlayout::numbers::layout_of;
 use lentstate::state::hand_back;
 use lentstate::state::machine_of;
-use transcribe::progress::Remaining;
+use steplines::remaining::Remaining;
 use transcribe::progress::Transcript;
 
 // What a stage's number says is still to be written: 0 the header and what follows it, 1 steps and the end, else nothing.

@@ -29,7 +29,7 @@ use Rattle.sheet.specs.Sheet.{sheetAnswer}
 use Rattle.sheet.specs.Laws.{ReadIsRunnable}
 use Rattle.sheet.proofs.RunnableLaws.{read-is-runnable}
 use Rattle.transcript.specs.Transcript.{headerLine}
-use Rattle.transcribe.specs.declared.progress.Remaining.the-variants.{RefusalLine, Header}
+use Rattle.steplines.specs.declared.remaining.Remaining.the-variants.{RefusalLine, Header}
 use Rattle.transcribe.specs.declared.progress.Transcript.{Transcript}
 use Rattle.transcribe.specs.Transcribe.{stepsText}
 use Rattle.transcribe.specs.Promise.{worldOf, textLeft}

@@ -20,10 +20,11 @@ use Rattle.definition.specs.Calls.{transcriptTests}
 use Rattle.definition.specs.Laws.{worldAt, ReadyToRun}
 use Rattle.definition.proofs.frame.FrameLaws.{ready-kept}
 use Rattle.definition.proofs.run.CallLaws.{all-hold}
-use Rattle.transcribe.specs.declared.progress.Remaining.{Remaining}
-use Rattle.transcribe.specs.declared.progress.Remaining.the-variants.{RefusalLine, Header, Steps, Nothing}
+use Rattle.steplines.specs.declared.remaining.Remaining.{Remaining}
+use Rattle.steplines.specs.declared.remaining.Remaining.the-variants.{RefusalLine, Header, Steps, Nothing}
 use Rattle.transcribe.specs.declared.progress.Transcript.{Transcript}
-use Rattle.transcribe.specs.Transcribe.{lineRoom, remainingText, Page, linesLeft, pageOf}
+use Rattle.steplines.specs.Page.{lineRoom, Page}
+use Rattle.transcribe.specs.Transcribe.{remainingText, linesLeft, pageOf}
 use Rattle.transcribe.specs.Promise.{worldOf, transcriptAfter, fillTests, textLeft, pageBy, pageCall}
 use Rattle.transcribe.proofs.TextLaws.{PageIs, page-of-is, stands-still, lands, stopped}
 use Rattle.transcribe.proofs.FilledLaws.{page-promised}

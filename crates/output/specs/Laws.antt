@@ -7,7 +7,8 @@ use Rattle.base.specs.declared.verdict.Verdict.the-variants.{Taken}
 use Rattle.base.specs.Verdict.{verdict}
 use Rattle.definition.specs.Setting.{Setting}
 use Rattle.transcribe.specs.declared.progress.Transcript.{Transcript}
-use Rattle.transcribe.specs.Transcribe.{lineRoom, linesLeft}
+use Rattle.steplines.specs.Page.{lineRoom}
+use Rattle.transcribe.specs.Transcribe.{linesLeft}
 use Rattle.transcribe.specs.Promise.{transcriptAfter, fillTests, textLeft, pageCall}
 use Rattle.output.specs.declared.open.SheetRun.{SheetRun}
 use Rattle.output.specs.Output.{sheetOutput}

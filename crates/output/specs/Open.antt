@@ -14,8 +14,8 @@ use Rattle.sheet.specs.declared.reader.Answer.{Answer}
 use Rattle.sheet.specs.declared.reader.Answer.the-variants.{Read, Refused}
 use Rattle.loader.specs.Setup.{sheetMemory, sheetStamps}
 use Rattle.sheet.specs.Sheet.{sheetAnswer}
-use Rattle.transcribe.specs.declared.progress.Remaining.{Remaining}
-use Rattle.transcribe.specs.declared.progress.Remaining.the-variants.{RefusalLine, Header}
+use Rattle.steplines.specs.declared.remaining.Remaining.{Remaining}
+use Rattle.steplines.specs.declared.remaining.Remaining.the-variants.{RefusalLine, Header}
 use Rattle.transcribe.specs.declared.progress.Transcript.{Transcript}
 use Rattle.transcribe.specs.Promise.{fillTests, textLeft}
 use Rattle.output.specs.declared.open.SheetRun.{SheetRun}

@@ -13,7 +13,7 @@ use loader::load::load_stamps;
 use machine::calls::Machine;
 use sheet::reader::Answer;
 use sheet::reader::read_sheet;
-use transcribe::progress::Remaining;
+use steplines::remaining::Remaining;
 use transcribe::progress::Transcript;
 
 // An opened sheet: its layout, how many of the stamps are its own, and its transcript, of which all is still to be written.

@@ -7,11 +7,10 @@ use native.Mathlib.Omega.{arith}
 use native.Mathlib.Nat.{zero-add}
 use lib.ListN.{length, length-append}
 use lib.Seq.{sets, length-sets}
-use borrow.Author.Tests.{le-ltb, lt-ltb, leb-true}
+use borrow.Author.Tests.{le-ltb, lt-ltb}
 use Rattle.base.specs.declared.refusal.Refusal.{Refusal}
 use Rattle.base.specs.declared.verdict.Verdict.{Verdict}
 use Rattle.base.specs.declared.verdict.Verdict.the-variants.{Taken as taken, Refused as refused}
-use Rattle.base.specs.Limits.{mostBudget}
 use Rattle.base.specs.FirstFailure.{firstFailure}
 use Rattle.base.specs.Verdict.{verdict}
 use Rattle.base.proofs.Tests.{if-true, if-false}
@@ -26,14 +25,16 @@ use Rattle.act.specs.declared.control.Control.{Control}
 use Rattle.act.specs.Control.{withRegisters, controlOf}
 use Rattle.transcript.specs.Transcript.{headerLine, refusalLine}
 use Rattle.transcript.proofs.TranscriptLaws.{sets-append}
-use Rattle.transcribe.specs.declared.progress.Remaining.{Remaining}
-use Rattle.transcribe.specs.declared.progress.Remaining.the-variants.{RefusalLine, Header, Steps, Nothing}
+use Rattle.steplines.specs.declared.remaining.Remaining.{Remaining}
+use Rattle.steplines.specs.declared.remaining.Remaining.the-variants.{RefusalLine, Header, Steps, Nothing}
 use Rattle.transcribe.specs.declared.progress.Transcript.{Transcript}
 use Rattle.transcribe.specs.declared.progress.Filled.{Filled}
-use Rattle.transcribe.specs.declared.steps.StepsWritten.{StepsWritten}
-use Rattle.transcribe.specs.Transcribe.{lineRoom, Page, emptyPage, behind, remainingText, pageFrom, pageOf}
+use Rattle.steplines.specs.declared.steps.StepsWritten.{StepsWritten}
+use Rattle.steplines.specs.Page.{lineRoom, Page, emptyPage, behind, pageFrom}
+use Rattle.transcribe.specs.Transcribe.{remainingText, pageOf}
 use Rattle.transcribe.specs.Promise.{worldOf, transcriptAfter, fillTests, textLeft, pageBy, FillPromise}
-use Rattle.transcribe.specs.internal.Written.{PageWritten, PageFilled}
+use Rattle.steplines.specs.internal.Written.{PageWritten}
+use Rattle.transcribe.specs.internal.Filled.{PageFilled}
 use Rattle.transcribe.proofs.TextLaws.{PageIs, still, page-of-is, world-counted}
 
 -- a call without tests is taken
@@ -178,11 +179,8 @@ module _ (S : Setting) (t : Transcript) (mem : List ℕ) where
         subst (λ (z : Verdict). PageFilled (pageBy S (length entry) t mem z) z t r memThen entry exit 0) (sym e ∙ same) q
 
   -- what a call that is taken knows
-  pub transcript-fit : (v : Verdict) → v ≡ verdict (transcriptTests S (t .budget) (worldOf t mem)) → v ≡ taken
-      → (timetable (S .stamps) ≡ true) × (t .budget ≤ mostBudget)
-  transcript-fit v e f =
-      let h = all-hold (transcriptTests S (t .budget) (worldOf t mem)) (sym e ∙ f) in
-      (h .1 .1 .0, leb-true _ _ (h .1 .1 .1 .1 .0))
+  pub taken-timed : (v : Verdict) → v ≡ verdict (transcriptTests S (t .budget) (worldOf t mem)) → v ≡ taken → timetable (S .stamps) ≡ true
+  taken-timed v e f = all-hold (transcriptTests S (t .budget) (worldOf t mem)) (sym e ∙ f) .1 .1 .0
 
   -- ---- the promise
 

@@ -1,5 +1,2 @@
-pub mod PartLaws
-pub mod CourseLaws
-pub mod PageLaws
 pub mod TextLaws
 pub mod FilledLaws

@@ -17,9 +17,10 @@ use Rattle.definition.specs.State.{World}
 use Rattle.definition.specs.Run.{Going, goes, stops, ending, Move, worldAfter, stepOf, stopOr, runFrom, noneOr, moves}
 use Rattle.definition.specs.Laws.{worldAt}
 use Rattle.transcript.specs.Transcript.{headerLine, endLine, refusalLine}
-use Rattle.transcribe.specs.declared.progress.Remaining.{Remaining}
-use Rattle.transcribe.specs.declared.progress.Remaining.the-variants.{RefusalLine, Header, Steps, Nothing}
-use Rattle.transcribe.specs.Transcribe.{lineRoom, lineOf, stepLines, stopLine, stepsText, remainingText, Page, emptyPage, behind, endPage, endOr, linesLeft, pageFrom, pageOf}
+use Rattle.steplines.specs.declared.remaining.Remaining.{Remaining}
+use Rattle.steplines.specs.declared.remaining.Remaining.the-variants.{RefusalLine, Header, Steps, Nothing}
+use Rattle.steplines.specs.Page.{lineRoom, lineOf, Page, emptyPage, behind, endPage, endOr, pageFrom}
+use Rattle.transcribe.specs.Transcribe.{stepLines, stopLine, stepsText, remainingText, linesLeft, pageOf}
 
 -- there is no room, and there is
 full : (room : ℕ) → ltb room lineRoom ≡ true → lineRoom ≤ room → ⊥

@@ -14,11 +14,12 @@ use Rattle.definition.specs.State.{World, world}
 use Rattle.definition.specs.Run.{run}
 use Rattle.definition.specs.Calls.{transcriptTests}
 use Rattle.definition.specs.Laws.{worldAt}
-use Rattle.transcribe.specs.declared.progress.Remaining.{Remaining}
-use Rattle.transcribe.specs.declared.progress.Remaining.the-variants.{RefusalLine, Header, Steps, Nothing}
+use Rattle.steplines.specs.declared.remaining.Remaining.{Remaining}
+use Rattle.steplines.specs.declared.remaining.Remaining.the-variants.{RefusalLine, Header, Steps, Nothing}
 use Rattle.transcribe.specs.declared.progress.Transcript.{Transcript}
 use Rattle.transcribe.specs.declared.progress.Filled.{Filled}
-use Rattle.transcribe.specs.Transcribe.{Page, emptyPage, pageOf, remainingText}
+use Rattle.steplines.specs.Page.{Page, emptyPage}
+use Rattle.transcribe.specs.Transcribe.{pageOf, remainingText}
 
 -- the machine of a transcript, with its memory
 abbrev pub worldOf : Transcript → List ℕ → World

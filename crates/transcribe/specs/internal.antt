@@ -1,3 +1,2 @@
 -- What no promise to a caller rests on.
-pub mod Course
-pub mod Written
+pub mod Filled

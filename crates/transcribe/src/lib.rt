@@ -1,4 +1,3 @@
 // A run's transcript, written part by part into a lent buffer.
 mod page;
 pub mod progress;
-mod steps;

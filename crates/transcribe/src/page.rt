@@ -4,25 +4,25 @@ ghost use mathlib.Core.Path.{_≡_};
 ghost use mathlib.Core.Bool.{true};
 ghost use mathlib.Core.List.{List};
 ghost use lib.ListN.{length};
-ghost use Rattle.base.specs.Limits.{mostBudget};
 ghost use Rattle.base.specs.declared.verdict.Verdict.the-variants.{Taken as TAKEN};
 ghost use Rattle.base.specs.Verdict.{verdict};
 ghost use Rattle.definition.specs.Setting.{Setting, settingOf};
 ghost use Rattle.definition.specs.Calls.{timetable, transcriptTests};
-ghost use Rattle.transcribe.specs.declared.progress.Remaining.the-variants.{RefusalLine as REFUSAL};
-ghost use Rattle.transcribe.specs.Transcribe.{pageFrom, pageOf};
+ghost use Rattle.steplines.specs.declared.remaining.Remaining.the-variants.{RefusalLine as REFUSAL};
+ghost use Rattle.steplines.specs.Page.{pageFrom};
+ghost use Rattle.transcribe.specs.Transcribe.{pageOf};
 ghost use Rattle.transcribe.specs.Promise.{worldOf, pageBy};
-ghost use Rattle.transcribe.specs.internal.Written.{fromHeader, PageFilled};
+ghost use Rattle.transcribe.specs.internal.Filled.{fromHeader, PageFilled};
 use crate::progress::Filled;
-use crate::progress::Remaining;
 use crate::progress::Transcript;
-use crate::steps::LINE_ROOM;
-use crate::steps::write_steps;
 use act::control::Control;
 use admission::verdict::judge_transcript;
 use base::refusal::Refusal;
 use base::verdict::Verdict;
 use layout::sections::Layout;
+use steplines::remaining::Remaining;
+use steplines::steps::LINE_ROOM;
+use steplines::steps::write_steps;
 use transcript::line::header_line;
 use transcript::line::refusal_line;
 
@@ -58,7 +58,7 @@ fn run_page(
     out: &mut [u8],
     start: usize,
 ) -> Filled
-    requires { ⌜ (timetable (now stamps) ≡ true) × ((start ≤ length (now out)) × (t .budget ≤ mostBudget)) ⌝ }
+    requires { ⌜ (timetable (now stamps) ≡ true) × (start ≤ length (now out)) ⌝ }
     ensures { λ r. ⌜ PageFilled (pageFrom (settingOf layout (now (stamps .entry))) (length (now (out .entry)) - start) (t .steps) (t .budget - t .steps) (worldOf t (now (mem .entry)))) TAKEN t r (now (mem .exit)) (now (out .entry)) (now (out .exit)) start ⌝ }
 {
     let state = t.state;
@@ -99,7 +99,7 @@ fn taken_page(
     stamps: &[u64],
     out: &mut [u8],
 ) -> Filled
-    requires { ⌜ (t .remaining ≡ fromHeader header) × ((timetable (now stamps) ≡ true) × (t .budget ≤ mostBudget)) ⌝ }
+    requires { ⌜ (t .remaining ≡ fromHeader header) × (timetable (now stamps) ≡ true) ⌝ }
     ensures { λ r. ⌜ PageFilled (pageOf (settingOf layout (now (stamps .entry))) (length (now (out .entry))) (t .steps) (t .budget - t .steps) (worldOf t (now (mem .entry))) (t .remaining)) TAKEN t r (now (mem .exit)) (now (out .entry)) (now (out .exit)) 0 ⌝ }
 {
     if !header {

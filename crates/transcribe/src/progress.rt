@@ -3,18 +3,10 @@ ghost use Rattle.definition.specs.Setting.{settingOf};
 ghost use Rattle.transcribe.specs.Promise.{FillPromise};
 use crate::page::refusal_page;
 use crate::page::tested_page;
-use base::refusal::Refusal;
 use base::verdict::Verdict;
 use definition::state::State;
 use layout::sections::Layout;
-
-// What is still to be written: a sheet's refusal, with its line; the header and what follows it; steps and the end; nothing.
-pub enum Remaining {
-    RefusalLine(Refusal, u64),
-    Header,
-    Steps,
-    Nothing,
-}
+use steplines::remaining::Remaining;
 
 // A transcript that is being written. The memory of its machine is lent beside it.
 pub struct Transcript {

@@ -1,6 +1,6 @@
 use mathlib.Core.Path.{sym}
 use Rattle.base.specs.Test.{if_then_else_}
-use Rattle.fast.specs.Effect.{fetchable}
+use Rattle.fast.specs.Steps.{fetchable}
 use borrow.Author.Needs.{needs}
 use Rattle.fast.proofs.steps.may_fetch.Statement.{statement}
 use Rattle.fast.proofs.steps.may_fetch.Tie as tie

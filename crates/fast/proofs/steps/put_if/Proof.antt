@@ -1,5 +1,5 @@
 use Rattle.base.specs.Test.{if_then_else_}
-use Rattle.fast.specs.Steps.{putIf}
+use Rattle.effect.specs.Effect.{putIf}
 use borrow.Author.Needs.{needs}
 use Rattle.fast.proofs.steps.put_if.Statement.{statement}
 use Rattle.fast.proofs.steps.put_if.Tie as tie

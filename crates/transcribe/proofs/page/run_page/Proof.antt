@@ -20,7 +20,8 @@ same-length-2 c = search needs
 
 returns : tie.Need-returns
 returns c =
-    run-filled _ _ _ _ _ _ _ _ _ _ _ _ (c .before .before .before .before .before .before .before .before .before .before .before .of .ensures) (c .state2 .ensures) (c .before .before .before .before .before .before .write-steps .ensures)
+    let p = c .before .before .before .before .before .before .before .before .before .before .before .before .before .before .before .before .before .before .pre in
+    run-filled _ _ _ _ _ _ _ _ _ _ _ _ (c .before .before .before .before .before .before .before .before .before .before .before .of .ensures) (c .state2 .ensures) (c .before .before .before .before .before .before .write-steps .ensures (p .0) (p .1))
 
 pub run-page-spec : {M : Type 1} → statement M
 run-page-spec =

@@ -3,8 +3,8 @@ use denote.Ref.{now}
 use Rattle.definition.specs.Setting.{settingOf}
 use mathlib.Core.Path.{_≡_, _∙_, ap}
 use borrow.Author.Tests.{not-true, not-false}
-use Rattle.transcribe.specs.declared.progress.Remaining.the-variants.{Header}
-use Rattle.transcribe.specs.internal.Written.{fromHeader}
+use Rattle.steplines.specs.declared.remaining.Remaining.the-variants.{Header}
+use Rattle.transcribe.specs.internal.Filled.{fromHeader}
 use borrow.Author.Needs.{needs}
 use Rattle.transcribe.proofs.page.taken_page.Statement.{statement}
 use Rattle.transcribe.proofs.page.taken_page.Tie as tie

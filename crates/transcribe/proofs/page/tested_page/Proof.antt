@@ -1,6 +1,6 @@
 use denote.Ref.{now}
 use Rattle.definition.specs.Setting.{settingOf}
-use Rattle.transcribe.proofs.FilledLaws.{transcript-fit, refused-filled, taken-filled}
+use Rattle.transcribe.proofs.FilledLaws.{taken-timed, refused-filled, taken-filled}
 use borrow.Author.Needs.{needs}
 use Rattle.transcribe.proofs.page.tested_page.Statement.{statement}
 use Rattle.transcribe.proofs.page.tested_page.Tie as tie
@@ -17,7 +17,7 @@ enum-told c = search needs
 taken-page-requires : tie.Need-taken-page-requires
 taken-page-requires c κs =
     let a = c .before .before .before .before .before .before .before .before .before .before .args in
-    let f = transcript-fit (settingOf (a .layout) (now (a .stamps))) (a .t) (now (a .mem)) _ (c .before .before .before .before .judge-transcript .ensures) (c .before .before .enum-told .given .1) in
+    let f = taken-timed (settingOf (a .layout) (now (a .stamps))) (a .t) (now (a .mem)) _ (c .before .before .before .before .judge-transcript .ensures) (c .before .before .enum-told .given .1) in
     (c .before .before .before .before .before .before .before .before .before .before .pre, f)
 
 same-length : tie.Need-same-length

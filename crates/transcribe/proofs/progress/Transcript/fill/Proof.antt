@@ -5,8 +5,8 @@ use Rattle.base.specs.declared.verdict.Verdict.the-variants.{Taken}
 use Rattle.base.specs.Verdict.{verdict}
 use Rattle.definition.specs.Setting.{settingOf}
 use Rattle.definition.specs.Calls.{transcriptTests}
-use Rattle.transcribe.specs.declared.progress.Remaining.{Remaining}
-use Rattle.transcribe.specs.declared.progress.Remaining.the-variants.{Header, Steps, Nothing}
+use Rattle.steplines.specs.declared.remaining.Remaining.{Remaining}
+use Rattle.steplines.specs.declared.remaining.Remaining.the-variants.{Header, Steps, Nothing}
 use Rattle.transcribe.specs.Promise.{worldOf, fillTests}
 use Rattle.transcribe.proofs.FilledLaws.{no-tests, unfilled, nothing-left, promised}
 use borrow.Author.Needs.{needs}

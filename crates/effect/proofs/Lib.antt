@@ -1,0 +1,4 @@
+pub mod FastSets
+pub mod FastRows
+pub mod FastWords
+pub mod EffectTable

@@ -1,0 +1,2 @@
+pub mod Effect
+pub mod Laws

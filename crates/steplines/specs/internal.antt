@@ -1,0 +1,3 @@
+-- What no promise to a caller rests on.
+pub mod Course
+pub mod Written
