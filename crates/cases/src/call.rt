@@ -1,6 +1,5 @@
 // The calls, each with its line of output.
 use crate::show;
-use crate::world::World;
 use console::print;
 use definition::answer::Outcome;
 use definition::answer::RunAnswer;
@@ -8,6 +7,7 @@ use definition::answer::StartAnswer;
 use definition::answer::StepAnswer;
 use definition::state::State;
 use machine::calls::Machine;
+use script::world::World;
 
 // What cannot be read or done is answered by a question mark.
 pub fn unknown(w: World) -> World {

@@ -24,14 +24,8 @@
 // A printed line has the letter, the answer (E and a number for a refusal), the state, and two sums of all 65,538 bytes. What
 // cannot be read is answered by a question mark, and the script has nothing such.
 mod call;
-mod line;
-mod memory;
 mod play;
-mod rules;
 mod show;
-mod stamps;
-mod words;
-mod world;
 
 use console::input::read_whole;
 
@@ -41,5 +35,5 @@ fn main() {
     let mut mem = [0u8; 65538];
     let mut times = [0u64; 4100];
     let n = read_whole(&mut script);
-    play::script(&script[..n], &mut mem, &mut times);
+    play::play(&script[..n], &mut mem, &mut times);
 }

@@ -1,13 +1,13 @@
 // The script, line by line.
 use crate::call;
-use crate::line;
-use crate::line::Line;
-use crate::memory;
-use crate::rules;
-use crate::stamps;
-use crate::world;
-use crate::world::World;
 use console::print;
+use script::line;
+use script::line::Line;
+use script::memory;
+use script::rules;
+use script::stamps;
+use script::world;
+use script::world::World;
 use text::text::head;
 use text::text::rest;
 
@@ -98,7 +98,7 @@ fn one_line(w: World, text: &[u8], mem: &mut [u8; 65538], times: &mut [u64]) -> 
 }
 
 // Every line, from a new world on.
-pub fn script(text: &[u8], mem: &mut [u8; 65538], times: &mut [u64]) {
+pub fn play(text: &[u8], mem: &mut [u8; 65538], times: &mut [u64]) {
     let mut w = world::new_world();
     let mut left = text;
     while left.len() > 0 {

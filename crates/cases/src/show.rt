@@ -1,10 +1,10 @@
 // The state of the machine on a line.
-use crate::memory;
 use console::print;
 use definition::state::SavedContext;
 use definition::state::Stamp;
 use definition::state::State;
 use definition::state::Time;
+use script::memory;
 
 // Sixteen words.
 fn registers(words: [u16; 16]) {

@@ -2,7 +2,7 @@
 mod fence;
 mod line;
 mod part;
+mod put;
 mod reason;
 pub mod sentence;
-mod text;
 mod timetable;

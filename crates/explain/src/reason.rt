@@ -3,7 +3,7 @@ ghost use Prim.Native.Nat.{_≤_};
 ghost use Rattle.explain.specs.internal.Reason.{reasonEnd, Wrote};
 use crate::part::field;
 use crate::part::line_at;
-use crate::text::put_five;
+use crate::put::put_five;
 use text::text::head;
 use text::text::rest;
 

@@ -8,13 +8,13 @@ ghost use Rattle.explain.specs.internal.Reason.{reasonEnd};
 use crate::fence::fence_reason;
 use crate::line::line_reason;
 use crate::part::line_at;
+use crate::put::put_all;
+use crate::put::put_number;
 use crate::reason;
 use crate::reason::Reason;
 use crate::reason::plain;
 use crate::reason::put_reason;
 use crate::reason::quoting;
-use crate::text::put_all;
-use crate::text::put_number;
 use crate::timetable::stamp_reason;
 use base::refusal::Refusal;
 

@@ -4,8 +4,8 @@ use lib.ListN.{length}
 use Rattle.text.specs.Text.{newline}
 use Rattle.text.proofs.Finding.{rest-less}
 use borrow.Author.Needs.{needs}
-use Rattle.cases.proofs.play.script.Statement.{statement}
-use Rattle.cases.proofs.play.script.Tie as tie
+use Rattle.cases.proofs.play.play.Statement.{statement}
+use Rattle.cases.proofs.play.play.Tie as tie
 
 abbrev Inv-loop : tie.InvT-loop
 Inv-loop text mem₀ times₀ w₀ left₀ mem times w left = length times ≡ length times₀
@@ -42,8 +42,8 @@ same-length c = search needs
 returns : tie.Need-returns Inv-loop μ-loop
 returns c = search needs
 
-pub script-spec : {M : Type 1} → statement M
-script-spec =
+pub play-spec : {M : Type 1} → statement M
+play-spec =
     tie.close
     (tie.spec
     Inv-loop

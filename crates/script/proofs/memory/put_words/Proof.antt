@@ -2,8 +2,8 @@ use Prim.Native.Nat.{_≤_, _-_}
 use mathlib.Core.Path.{_≡_}
 use lib.ListN.{length}
 use borrow.Author.Needs.{needs}
-use Rattle.cases.proofs.memory.put_words.Statement.{statement}
-use Rattle.cases.proofs.memory.put_words.Tie as tie
+use Rattle.script.proofs.memory.put_words.Statement.{statement}
+use Rattle.script.proofs.memory.put_words.Tie as tie
 
 abbrev Inv-loop : tie.InvT-loop
 Inv-loop mem₀ count fields a₀ i₀ mem a i = (i ≤ 8) × (length mem ≡ length mem₀)

@@ -1,8 +1,8 @@
 use mathlib.Core.Path.{_≡_}
 use lib.ListN.{length}
 use borrow.Author.Needs.{needs}
-use Rattle.cases.proofs.stamps.put_row.Statement.{statement}
-use Rattle.cases.proofs.stamps.put_row.Tie as tie
+use Rattle.script.proofs.stamps.put_row.Statement.{statement}
+use Rattle.script.proofs.stamps.put_row.Tie as tie
 
 abbrev Inv-loop : tie.InvT-loop
 Inv-loop times₀ n first step count done₀ stamp₀ left₀ times done stamp left = length times ≡ length times₀

@@ -1,8 +1,8 @@
 use Prim.Native.Nat.{_≤_, _-_}
 use lib.ListN.{length}
 use borrow.Author.Needs.{needs}
-use Rattle.cases.proofs.line.read.Statement.{statement}
-use Rattle.cases.proofs.line.read.Tie as tie
+use Rattle.script.proofs.line.read.Statement.{statement}
+use Rattle.script.proofs.line.read.Tie as tie
 
 abbrev Inv-loop : tie.InvT-loop
 Inv-loop text l₀ i₀ l i = 1 ≤ i

@@ -1,8 +1,8 @@
 use Prim.Native.Nat.{_≤_, _-_}
 use lib.ListN.{length}
 use borrow.Author.Needs.{needs}
-use Rattle.cases.proofs.memory.sums.Statement.{statement}
-use Rattle.cases.proofs.memory.sums.Tie as tie
+use Rattle.script.proofs.memory.sums.Statement.{statement}
+use Rattle.script.proofs.memory.sums.Tie as tie
 
 abbrev Inv-loop : tie.InvT-loop
 Inv-loop mem s₀ i₀ s i = i ≤ length mem

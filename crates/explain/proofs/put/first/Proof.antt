@@ -5,8 +5,8 @@ use Prim.Native.Nat.{_≤_}
 use lib.ListN.{length}
 use lib.Seq.{length-take-le}
 use borrow.Author.Needs.{needs}
-use Rattle.explain.proofs.text.first.Statement.{statement}
-use Rattle.explain.proofs.text.first.Tie as tie
+use Rattle.explain.proofs.put.first.Statement.{statement}
+use Rattle.explain.proofs.put.first.Tie as tie
 
 returns : tie.Need-returns
 returns c = search needs

@@ -7,8 +7,8 @@ use lib.ListN.{length, drop}
 use lib.Seq.{sets, length-sets}
 use Rattle.transcript.proofs.TranscriptLaws.{text-put, text-end}
 use borrow.Author.Needs.{needs}
-use Rattle.explain.proofs.text.put_all.Statement.{statement}
-use Rattle.explain.proofs.text.put_all.Tie as tie
+use Rattle.explain.proofs.put.put_all.Statement.{statement}
+use Rattle.explain.proofs.put.put_all.Tie as tie
 
 abbrev Inv-loop : tie.InvT-loop
 Inv-loop out₀ at text i₀ out i = (i ≤ length text) × (sets out₀ at text ≡ sets out (at + i) (drop i text))

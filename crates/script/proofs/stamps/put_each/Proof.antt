@@ -2,8 +2,8 @@ use Prim.Native.Nat.{_≤_, _-_}
 use mathlib.Core.Path.{_≡_}
 use lib.ListN.{length}
 use borrow.Author.Needs.{needs}
-use Rattle.cases.proofs.stamps.put_each.Statement.{statement}
-use Rattle.cases.proofs.stamps.put_each.Tie as tie
+use Rattle.script.proofs.stamps.put_each.Statement.{statement}
+use Rattle.script.proofs.stamps.put_each.Tie as tie
 
 abbrev Inv-loop : tie.InvT-loop
 Inv-loop times₀ n count fields done₀ i₀ times done i = (i ≤ 8) × (length times ≡ length times₀)

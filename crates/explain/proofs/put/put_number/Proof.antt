@@ -1,7 +1,7 @@
 use Rattle.explain.proofs.SentenceLaws.{text-is-put, digits-put}
 use borrow.Author.Needs.{needs}
-use Rattle.explain.proofs.text.put_number.Statement.{statement}
-use Rattle.explain.proofs.text.put_number.Tie as tie
+use Rattle.explain.proofs.put.put_number.Statement.{statement}
+use Rattle.explain.proofs.put.put_number.Tie as tie
 
 decimal-digits-requires : tie.Need-decimal-digits-requires
 decimal-digits-requires c κs = search needs

@@ -1,7 +1,7 @@
 use Prim.Native.Nat.{_≤_, _-_}
 use borrow.Author.Needs.{needs}
-use Rattle.cases.proofs.rules.others_fit.Statement.{statement}
-use Rattle.cases.proofs.rules.others_fit.Tie as tie
+use Rattle.script.proofs.rules.others_fit.Statement.{statement}
+use Rattle.script.proofs.rules.others_fit.Tie as tie
 
 abbrev Inv-loop : tie.InvT-loop
 Inv-loop most fields i₀ i = i ≤ 8
