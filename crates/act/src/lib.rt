@@ -1,5 +1,2 @@
-// What an instruction does: the registers, memory, and a state whose registers are lent.
-pub mod control;
+// What an instruction does to registers and memory.
 pub mod instruction;
-pub mod memory;
-pub mod registers;

@@ -4,14 +4,14 @@ ghost use Prim.Native.Nat.{ℕ};
 ghost use mathlib.Core.List.{List};
 ghost use Rattle.definition.specs.Setting.{settingOf};
 ghost use Rattle.definition.specs.State.{framedRegisters, framedSlot, framedAlarm, framedContext, framed};
-ghost use Rattle.act.specs.Control.{withRegisters};
-use act::control::Control;
+ghost use Rattle.storage.specs.Control.{withRegisters};
 use alu::status::gie_is_set;
 use base::word::is_even;
 use definition::state::SavedContext;
 use definition::state::Stamp;
 use definition::state::State;
 use layout::sections::Layout;
+use storage::control::Control;
 
 // pc and sp are even, r3 is zero.
 fn registers_fit(registers: &[u16; 16]) -> bool

@@ -6,10 +6,9 @@ ghost use Rattle.base.specs.Verdict.{verdict};
 ghost use Rattle.definition.specs.Setting.{settingOf};
 ghost use Rattle.definition.specs.State.{world};
 ghost use Rattle.definition.specs.Calls.{wholeMemory, testsFound, budgetTests, transcriptTests, stepTests, runTests};
-ghost use Rattle.act.specs.Control.{withRegisters};
+ghost use Rattle.storage.specs.Control.{withRegisters};
 use crate::frame::is_framed;
 use crate::frame::state_is_framed;
-use act::control::Control;
 use base::limits::LAST_CLOCK;
 use base::limits::MEMORY_BYTES;
 use base::limits::MOST_BUDGET;
@@ -18,6 +17,7 @@ use base::verdict::Verdict;
 use clock::timetable::is_timetable;
 use definition::state::State;
 use layout::sections::Layout;
+use storage::control::Control;
 
 // Memory is 65,536 bytes.
 pub fn memory_is_whole(mem: &[u8]) -> bool
@@ -73,16 +73,24 @@ fn first_refusal(
 }
 
 // The first test of a run that fails.
-pub fn judge_run(m: State, mem: &[u8], layout: Layout, stamps: &[u64], budget: u64) -> Verdict
-    ensures { λ r. ⌜ r ≡ verdict (runTests (settingOf layout (now (stamps .entry))) budget (world m (now (mem .entry)))) ⌝ }
+pub fn judge_run(
+    control: Control,
+    registers: &[u16; 16],
+    saved: &[u16; 16],
+    mem: &[u8],
+    layout: Layout,
+    stamps: &[u64],
+    budget: u64,
+) -> Verdict
+    ensures { λ r. ⌜ r ≡ verdict (runTests (settingOf layout (now (stamps .entry))) budget (world (withRegisters (now (registers .entry)) (now (saved .entry)) control) (now (mem .entry)))) ⌝ }
 {
     first_refusal(
         memory_is_whole(mem),
         layout.accepted(),
         is_timetable(stamps),
-        state_is_framed(m, layout),
+        is_framed(control, registers, saved, layout),
         budget_allowed(budget),
-        clock_allowed(m.time.clock),
+        clock_allowed(control.time.clock),
     )
 }
 

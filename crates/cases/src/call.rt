@@ -1,10 +1,10 @@
 // The calls, each with its line of output.
 use crate::show;
+use answers::answer::Outcome;
+use answers::answer::RunAnswer;
+use answers::answer::StartAnswer;
+use answers::answer::StepAnswer;
 use console::print;
-use definition::answer::Outcome;
-use definition::answer::RunAnswer;
-use definition::answer::StartAnswer;
-use definition::answer::StepAnswer;
 use definition::state::State;
 use machine::calls::Machine;
 use script::world::World;

@@ -1,15 +1,15 @@
 -- The answers of calls in document 01's numbers and letters; each is 0 where there is none.
 use Prim.Native.Nat.{ℕ}
 use Rattle.base.specs.Refusal.{refusalNumber}
-use Rattle.definition.specs.declared.answer.Outcome.{Outcome}
-use Rattle.definition.specs.declared.answer.Outcome.the-variants.{Ran, Plain, Padded, Chained, Back, Reset, Halted}
-use Rattle.definition.specs.declared.answer.StartAnswer.{StartAnswer}
-use Rattle.definition.specs.declared.answer.StartAnswer.the-variants.{Done as HasStarted, Refused as NotStarted}
-use Rattle.definition.specs.declared.answer.StepAnswer.{StepAnswer}
-use Rattle.definition.specs.declared.answer.StepAnswer.the-variants.{Done as HasStepped, Refused as NotStepped}
-use Rattle.definition.specs.declared.answer.RunAnswer.{RunAnswer}
-use Rattle.definition.specs.declared.answer.RunAnswer.the-variants.{Done as HasRun, Refused as NotRun}
-use Rattle.definition.specs.Outcome.{causeNumber, kindLetter, endLetter}
+use Rattle.answers.specs.declared.answer.Outcome.{Outcome}
+use Rattle.answers.specs.declared.answer.Outcome.the-variants.{Ran, Plain, Padded, Chained, Back, Reset, Halted}
+use Rattle.answers.specs.declared.answer.StartAnswer.{StartAnswer}
+use Rattle.answers.specs.declared.answer.StartAnswer.the-variants.{Done as HasStarted, Refused as NotStarted}
+use Rattle.answers.specs.declared.answer.StepAnswer.{StepAnswer}
+use Rattle.answers.specs.declared.answer.StepAnswer.the-variants.{Done as HasStepped, Refused as NotStepped}
+use Rattle.answers.specs.declared.answer.RunAnswer.{RunAnswer}
+use Rattle.answers.specs.declared.answer.RunAnswer.the-variants.{Done as HasRun, Refused as NotRun}
+use Rattle.answers.specs.Outcome.{causeNumber, kindLetter, endLetter}
 
 -- the number of the refusal of start
 abbrev pub startRefusal : StartAnswer → ℕ

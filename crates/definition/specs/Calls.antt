@@ -15,12 +15,12 @@ use Rattle.base.specs.declared.verdict.Verdict.the-variants.{Taken as taken, Re
 use Rattle.definition.specs.Setting.{Setting}
 use Rattle.layout.specs.Rules.{accepted}
 use Rattle.definition.specs.declared.state.State.{State}
-use Rattle.definition.specs.declared.answer.StartAnswer.{StartAnswer}
-use Rattle.definition.specs.declared.answer.StartAnswer.the-variants.{Done as HasStarted, Refused as NotStarted}
-use Rattle.definition.specs.declared.answer.StepAnswer.{StepAnswer}
-use Rattle.definition.specs.declared.answer.StepAnswer.the-variants.{Done as HasStepped, Refused as NotStepped}
-use Rattle.definition.specs.declared.answer.RunAnswer.{RunAnswer}
-use Rattle.definition.specs.declared.answer.RunAnswer.the-variants.{Done as HasRun, Refused as NotRun}
+use Rattle.answers.specs.declared.answer.StartAnswer.{StartAnswer}
+use Rattle.answers.specs.declared.answer.StartAnswer.the-variants.{Done as HasStarted, Refused as NotStarted}
+use Rattle.answers.specs.declared.answer.StepAnswer.{StepAnswer}
+use Rattle.answers.specs.declared.answer.StepAnswer.the-variants.{Done as HasStepped, Refused as NotStepped}
+use Rattle.answers.specs.declared.answer.RunAnswer.{RunAnswer}
+use Rattle.answers.specs.declared.answer.RunAnswer.the-variants.{Done as HasRun, Refused as NotRun}
 use Rattle.definition.specs.State.{World, start, framed}
 use Rattle.definition.specs.Run.{stepOf, run}
 

@@ -14,10 +14,10 @@ use Rattle.definition.specs.declared.state.Time.{Time}
 use Rattle.definition.specs.declared.state.SavedContext.{SavedContext}
 use Rattle.definition.specs.declared.state.SavedContext.the-variants.{Unheld, Held}
 use Rattle.definition.specs.declared.state.State.{State}
-use Rattle.definition.specs.declared.answer.Cause.{Cause}
-use Rattle.definition.specs.declared.answer.Cause.the-variants.{Write}
-use Rattle.definition.specs.declared.answer.Outcome.{Outcome}
-use Rattle.definition.specs.declared.answer.Outcome.the-variants.{Plain, Padded, Chained, Back, Reset}
+use Rattle.answers.specs.declared.answer.Cause.{Cause}
+use Rattle.answers.specs.declared.answer.Cause.the-variants.{Write}
+use Rattle.answers.specs.declared.answer.Outcome.{Outcome}
+use Rattle.answers.specs.declared.answer.Outcome.the-variants.{Plain, Padded, Chained, Back, Reset}
 use Rattle.definition.specs.Memory.{putWord}
 use Rattle.definition.specs.Registers.{pc, sp, sr, zeros, cleared}
 use Rattle.definition.specs.Time.{pass, emptied}

@@ -32,11 +32,11 @@ use Rattle.definition.specs.declared.state.Stamp.the-variants.{Never, At
 use Rattle.definition.specs.declared.state.Time.{Time}
 use Rattle.definition.specs.declared.state.SavedContext.the-variants.{Unheld, Held}
 use Rattle.definition.specs.declared.state.State.{State}
-use Rattle.definition.specs.declared.answer.Cause.{Cause}
-use Rattle.definition.specs.declared.answer.Cause.the-variants.{Execute, Reentry, SecondSide, Inside}
-use Rattle.definition.specs.declared.answer.Outcome.{Outcome}
-use Rattle.definition.specs.declared.answer.Outcome.the-variants.{Ran, Plain, Padded, Chained, Back, Reset, Halted}
-use Rattle.definition.specs.declared.answer.End.the-variants.{Halted as HaltedEnd, Clock as ClockEnd, Spent}
+use Rattle.answers.specs.declared.answer.Cause.{Cause}
+use Rattle.answers.specs.declared.answer.Cause.the-variants.{Execute, Reentry, SecondSide, Inside}
+use Rattle.answers.specs.declared.answer.Outcome.{Outcome}
+use Rattle.answers.specs.declared.answer.Outcome.the-variants.{Ran, Plain, Padded, Chained, Back, Reset, Halted}
+use Rattle.answers.specs.declared.answer.End.the-variants.{Halted as HaltedEnd, Clock as ClockEnd, Spent}
 use Rattle.definition.specs.Memory.{byteAt, wordAt}
 use Rattle.definition.specs.Registers.{pc, sr}
 use Rattle.definition.specs.Time.{pass, emptied}

@@ -3,7 +3,6 @@ pub mod Memory
 pub mod Registers
 pub mod Time
 pub mod State
-pub mod Outcome
 pub mod Judge
 pub mod Act
 pub mod Interrupt

@@ -5,13 +5,13 @@ use mathlib.Core.List.{List}
 use Rattle.base.specs.Verdict.{verdict, refusedBy}
 use Rattle.definition.specs.Setting.{Setting}
 use Rattle.definition.specs.declared.state.State.{State}
-use Rattle.definition.specs.declared.answer.StartAnswer.{StartAnswer}
-use Rattle.definition.specs.declared.answer.StepAnswer.{StepAnswer}
-use Rattle.definition.specs.declared.answer.RunAnswer.{RunAnswer}
+use Rattle.answers.specs.declared.answer.StartAnswer.{StartAnswer}
+use Rattle.answers.specs.declared.answer.StepAnswer.{StepAnswer}
+use Rattle.answers.specs.declared.answer.RunAnswer.{RunAnswer}
 use Rattle.definition.specs.State.{World}
 use Rattle.definition.specs.Interrupt.{Step}
 use Rattle.definition.specs.Run.{Stop, stepOf, run}
-use Rattle.definition.specs.Outcome.{kindLetter, endLetter}
+use Rattle.answers.specs.Outcome.{kindLetter, endLetter}
 use Rattle.definition.specs.Answers.{startRefusal, stepRefusal, runRefusal, causeOf, stepKind, stepCause, runEnd, runSteps}
 use Rattle.definition.specs.Calls.{startTests, stepTests, runTests, Called, called, startCall, stepCall, runCall}
 

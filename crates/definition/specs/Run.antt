@@ -8,8 +8,8 @@ use Rattle.base.specs.Limits.{lastClock}
 use Rattle.definition.specs.Setting.{Setting}
 use Rattle.definition.specs.declared.state.Time.{Time}
 use Rattle.definition.specs.declared.state.State.{State}
-use Rattle.definition.specs.declared.answer.End.{End}
-use Rattle.definition.specs.declared.answer.End.the-variants.{Halted, Clock, Spent}
+use Rattle.answers.specs.declared.answer.End.{End}
+use Rattle.answers.specs.declared.answer.End.the-variants.{Halted, Clock, Spent}
 use Rattle.definition.specs.State.{World, world}
 use Rattle.definition.specs.Interrupt.{Step}
 use Rattle.definition.specs.Step.{step}

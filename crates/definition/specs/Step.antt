@@ -12,7 +12,7 @@ use Rattle.definition.specs.declared.state.Time.{Time}
 use Rattle.definition.specs.declared.state.SavedContext.{SavedContext}
 use Rattle.definition.specs.declared.state.SavedContext.the-variants.{Unheld, Held}
 use Rattle.definition.specs.declared.state.State.{State}
-use Rattle.definition.specs.declared.answer.Outcome.the-variants.{Ran, Halted}
+use Rattle.answers.specs.declared.answer.Outcome.the-variants.{Ran, Halted}
 use Rattle.definition.specs.Registers.{register, pc, zeros}
 use Rattle.definition.specs.Time.{pass, setAlarm, deviceWord}
 use Rattle.definition.specs.State.{World, world, isHeld}

@@ -11,7 +11,6 @@ ghost use Rattle.isa.specs.Cycles.{cyclesOf};
 ghost use Rattle.alu.specs.Arithmetic.{computed};
 ghost use Rattle.effect.specs.declared.effect.Speed.the-variants.{Slow as SLOW};
 ghost use Rattle.effect.specs.Effect.{addressPast, secondAddress, settingPcIn, settingRegisterIn, computing, grouped, branching, registering, loading, constant, storing, moving, fastEffect};
-use act::memory::word_at;
 use alu::arithmetic::compute;
 use alu::status::set_flags;
 use alu::status::zero_is_set;
@@ -23,6 +22,7 @@ use isa::instruction::Operand;
 use layout::access::Right;
 use layout::sections::Layout;
 use rows::row::Operation;
+use storage::memory::word_at;
 
 // What a fast step sets, in this order: pc, one more register by its number, the status; whether it puts its source; its cycles.
 pub struct Effect {

@@ -5,18 +5,11 @@ ghost use lib.ListN.{length, take};
 ghost use lib.Seq.{sets};
 ghost use Rattle.explain.specs.Sentence.{lineLabel, refusalLabel, Explains};
 ghost use Rattle.explain.specs.internal.Reason.{reasonEnd};
-use crate::fence::fence_reason;
-use crate::line::line_reason;
-use crate::part::line_at;
 use crate::put::put_all;
 use crate::put::put_number;
-use crate::reason;
-use crate::reason::Reason;
-use crate::reason::plain;
 use crate::reason::put_reason;
-use crate::reason::quoting;
-use crate::timetable::stamp_reason;
 use base::refusal::Refusal;
+use reasons::finding::reason_of;
 
 // Puts the line's number, where it has one.
 fn put_line(out: &mut [u8], line: u64) -> usize
@@ -88,21 +81,6 @@ fn put_refusal(out: &mut [u8], at: usize, refusal: Refusal) -> usize
     let text = l.text;
     let length = l.length;
     put_all(out, at, &text[..length])
-}
-
-// What is wrong.
-fn reason_of(sheet: &[u8], refusal: Refusal, line: u64) -> Reason {
-    match refusal {
-        Refusal::Map => plain(reason::NO_REASON),
-        Refusal::Fence => fence_reason(line_at(sheet, line)),
-        Refusal::Timetable => stamp_reason(sheet, line),
-        Refusal::Frame => plain(reason::NO_REASON),
-        Refusal::Distance => quoting(reason::BUDGET_HIGH, line, 1),
-        Refusal::Clock => plain(reason::NO_REASON),
-        Refusal::Line => line_reason(sheet, line),
-        Refusal::Sheet => plain(reason::TOO_LONG),
-        Refusal::Word => plain(reason::NO_REASON),
-    }
 }
 
 // Writes the sentence for a refusal and its line to the front of a lent buffer, as far as it goes, and answers its length.

@@ -16,7 +16,7 @@ use Rattle.definition.specs.Setting.{Setting}
 use Rattle.definition.specs.declared.state.Stamp.{Stamp}
 use Rattle.definition.specs.declared.state.Stamp.the-variants.{Never}
 use Rattle.definition.specs.declared.state.State.{State}
-use Rattle.definition.specs.declared.answer.Outcome.the-variants.{Ran}
+use Rattle.answers.specs.declared.answer.Outcome.the-variants.{Ran}
 use Rattle.definition.specs.State.{isHeld, world}
 use Rattle.definition.specs.Time.{deviceWord, pass}
 use Rattle.definition.specs.Interrupt.{gives, due, interrupted}

@@ -18,9 +18,9 @@ use Rattle.definition.specs.declared.state.Stamp.the-variants.{Never}
 use Rattle.definition.specs.declared.state.SavedContext.{SavedContext}
 use Rattle.definition.specs.declared.state.SavedContext.the-variants.{Unheld, Held}
 use Rattle.definition.specs.declared.state.Time.{Time}
-use Rattle.act.specs.declared.control.Control.{Control}
+use Rattle.storage.specs.declared.control.Control.{Control}
 use Rattle.definition.specs.declared.state.State.{State}
-use Rattle.definition.specs.declared.answer.Outcome.the-variants.{Ran}
+use Rattle.answers.specs.declared.answer.Outcome.the-variants.{Ran}
 use Rattle.effect.specs.declared.effect.Effect.{Effect}
 use Rattle.effect.specs.declared.effect.Speed.the-variants.{Fast}
 use Rattle.definition.specs.Memory.{wordAt}
@@ -34,7 +34,7 @@ use Rattle.clock.specs.Upcoming.{clockRoom}
 use Rattle.clock.specs.NoEvent.{later, NoEventUntil}
 use Rattle.effect.specs.Effect.{putIf}
 use Rattle.fast.specs.Steps.{fetchable, FastState, fastState, fastAt, applied, mostFastCycles, FastSteps, noStep, oneMore, RanSteps, none, on, savedAfter}
-use Rattle.act.specs.Control.{withRegisters}
+use Rattle.storage.specs.Control.{withRegisters}
 use Rattle.definition.proofs.instruction.InstructionLaws.{cycles-range}
 use Rattle.definition.proofs.instruction.MemoryLaws.{put-length}
 use Rattle.clock.proofs.NoEventLaws.{no-event-later}

@@ -13,7 +13,7 @@ use Rattle.layout.specs.Sections.{inside}
 use Rattle.layout.specs.Access.{may}
 use Rattle.definition.specs.Setting.{Setting}
 use Rattle.definition.specs.declared.state.SavedContext.{SavedContext}
-use Rattle.definition.specs.declared.answer.Outcome.the-variants.{Ran}
+use Rattle.answers.specs.declared.answer.Outcome.the-variants.{Ran}
 use Rattle.effect.specs.declared.effect.Effect.{Effect}
 use Rattle.effect.specs.declared.effect.Speed.{Speed}
 use Rattle.effect.specs.declared.effect.Speed.the-variants.{Fast}

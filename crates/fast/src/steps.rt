@@ -6,8 +6,6 @@ ghost use Rattle.base.specs.Limits.{memoryBytes, lastClock};
 ghost use Rattle.clock.specs.Upcoming.{clockRoom};
 ghost use Rattle.effect.specs.Effect.{putIf};
 ghost use Rattle.fast.specs.Steps.{fetchable, fastState, FastSteps};
-use act::memory::put_word;
-use act::memory::word_at;
 use base::limits::LAST_CLOCK;
 use base::limits::MEMORY_BYTES;
 use base::test::both;
@@ -15,6 +13,8 @@ use effect::effect::Speed;
 use effect::effect::fast_effect;
 use layout::access::Right;
 use layout::sections::Layout;
+use storage::memory::put_word;
+use storage::memory::word_at;
 
 // No fast step takes more cycles: the most that an instruction takes.
 const MOST_FAST_CYCLES: u64 = 5;

@@ -16,8 +16,8 @@ use Rattle.definition.specs.State.{World, world, isHeld}
 use Rattle.definition.specs.Interrupt.{gives}
 use Rattle.definition.specs.Step.{savedFor, step}
 use Rattle.definition.specs.Run.{stepOf}
-use Rattle.act.specs.declared.control.Control.{Control}
-use Rattle.act.specs.Control.{withRegisters}
+use Rattle.storage.specs.declared.control.Control.{Control}
+use Rattle.storage.specs.Control.{withRegisters}
 use Rattle.clock.specs.Upcoming.{CanPass}
 use Rattle.interrupt.specs.declared.service.StepResult.{StepResult}
 use Rattle.fast.specs.declared.steps.FastProgress.{FastProgress}

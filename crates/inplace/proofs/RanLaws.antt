@@ -3,7 +3,7 @@ use mathlib.Core.Path.{_≡_, refl, sym, _∙_, ap}
 use Prim.Native.Nat.{ℕ, _≤_}
 use native.Mathlib.Omega.{arith}
 use Rattle.definition.specs.Setting.{Setting}
-use Rattle.definition.specs.declared.answer.Outcome.the-variants.{Ran}
+use Rattle.answers.specs.declared.answer.Outcome.the-variants.{Ran}
 use Rattle.definition.specs.State.{World}
 use Rattle.definition.specs.Interrupt.{gives}
 use Rattle.definition.specs.Run.{stepOf}

@@ -11,13 +11,11 @@ ghost use Rattle.definition.specs.Step.{savedFor};
 ghost use Rattle.definition.specs.Run.{stepOf};
 ghost use Rattle.definition.specs.Calls.{timetable};
 ghost use Rattle.clock.specs.Upcoming.{IsUpcoming};
-ghost use Rattle.act.specs.Control.{withRegisters};
+ghost use Rattle.storage.specs.Control.{withRegisters};
 ghost use Rattle.inplace.specs.internal.InPlace.{controlAfter, FastUntil};
-use act::control::Control;
-use act::registers::zero_registers;
 use alu::status::gie_is_set;
+use answers::answer::Outcome;
 use clock::time::no_event_until;
-use definition::answer::Outcome;
 use definition::state::SavedContext;
 use definition::state::State;
 use definition::state::Time;
@@ -26,6 +24,8 @@ use fast::steps::fast_steps;
 use layout::sections::Layout;
 use step::step::is_held;
 use step::step::take_step;
+use storage::control::Control;
+use storage::registers::zero_registers;
 
 // What a step makes beside the registers, which it changes where they lie.
 pub struct InPlaceStep {

@@ -9,8 +9,8 @@ use Rattle.definition.specs.declared.state.Stamp.the-variants.{Never, At}
 use Rattle.definition.specs.declared.state.Time.{Time}
 use Rattle.definition.specs.declared.state.SavedContext.the-variants.{Held}
 use Rattle.definition.specs.declared.state.State.{State}
-use Rattle.definition.specs.declared.answer.Outcome.{Outcome}
-use Rattle.definition.specs.declared.answer.Outcome.the-variants.{Back}
+use Rattle.answers.specs.declared.answer.Outcome.{Outcome}
+use Rattle.answers.specs.declared.answer.Outcome.the-variants.{Back}
 use Rattle.interrupt.specs.declared.service.StepResult.{StepResult}
 use Rattle.definition.specs.Interrupt.{Step, due, padded, interrupted, chained, back, resumed}
 use Rattle.interrupt.specs.StepResult.{stepResult}

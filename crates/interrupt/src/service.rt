@@ -7,29 +7,29 @@ ghost use Rattle.layout.specs.declared.sections.Layout.{Layout as LAYOUT};
 ghost use Rattle.definition.specs.Setting.{settingOf};
 ghost use Rattle.definition.specs.State.{resetAddress, fromVector, resetState};
 ghost use Rattle.definition.specs.declared.state.Stamp.the-variants.{At as AT};
-ghost use Rattle.definition.specs.declared.answer.Outcome.the-variants.{Ran as RAN};
+ghost use Rattle.answers.specs.declared.answer.Outcome.the-variants.{Ran as RAN};
 ghost use Rattle.interrupt.specs.StepResult.{stepResult};
 ghost use Rattle.definition.specs.Interrupt.{ageOf, due, reset, plain, padded, interrupted, chained, back, resumed};
 ghost use Rattle.clock.specs.Upcoming.{CanPass};
-use act::memory::put_word;
-use act::memory::word_at;
-use act::registers::cleared_registers;
-use act::registers::read_register;
-use act::registers::set_register;
-use act::registers::zero_registers;
 use alu::status::gie_is_set;
+use answers::answer::Cause;
+use answers::answer::Outcome;
 use base::test::both;
 use base::word::difference;
 use base::word::drop_bit_0;
 use clock::time::emptied;
 use clock::time::wait;
-use definition::answer::Cause;
-use definition::answer::Outcome;
 use definition::state::SavedContext;
 use definition::state::Stamp;
 use definition::state::State;
 use definition::state::Time;
 use layout::sections::Layout;
+use storage::memory::put_word;
+use storage::memory::word_at;
+use storage::registers::cleared_registers;
+use storage::registers::read_register;
+use storage::registers::set_register;
+use storage::registers::zero_registers;
 
 // What a step makes: the state after it and its outcome. Memory is written where it lies.
 pub struct StepResult {

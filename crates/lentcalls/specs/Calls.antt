@@ -3,8 +3,8 @@ use Prim.Native.Nat.{ℕ}
 use mathlib.Core.Path.{_≡_}
 use mathlib.Core.List.{List}
 use Rattle.definition.specs.Setting.{settingOf}
-use Rattle.definition.specs.declared.answer.StepAnswer.{StepAnswer}
-use Rattle.definition.specs.declared.answer.RunAnswer.{RunAnswer}
+use Rattle.answers.specs.declared.answer.StepAnswer.{StepAnswer}
+use Rattle.answers.specs.declared.answer.RunAnswer.{RunAnswer}
 use Rattle.definition.specs.State.{world}
 use Rattle.definition.specs.Answers.{startRefusal, stepRefusal, runRefusal, stepKind, stepCause, runEnd, runSteps}
 use Rattle.definition.specs.Calls.{Called, startCall, stepCall, runCall}
@@ -25,21 +25,22 @@ pub record StartReturns (mem : List ℕ) (before after : Numbers) (answered : �
   pub number : answered ≡ startRefusal (startCall mem .answer)
   pub machine : after ≡ unlessRefused answered (numbersOf (startCall mem .state)) before
 
--- what step promises of the number that it answers, and of the machine's numbers, memory, kind and cause after it
-pub record StepReturns
-    (mem layout stamps : List ℕ) (before after : Numbers) (bytes : List ℕ) (kind kindThen cause causeThen answered : ℕ) : Type 0 where
-  pub number : answered ≡ stepRefusal (stepOn before mem layout stamps .answer)
-  pub memory : bytes ≡ stepOn before mem layout stamps .memory
-  pub machine : after ≡ unlessRefused answered (numbersOf (stepOn before mem layout stamps .state)) before
-  pub kind-letter : kindThen ≡ unlessRefused answered (stepKind (stepOn before mem layout stamps .answer)) kind
-  pub cause-number : causeThen ≡ unlessRefused answered (stepCause (stepOn before mem layout stamps .answer)) cause
+-- what a call promises of the number that it answers, and after it of the machine's numbers, memory, and the two numbers of its answer
+pub record CallReturns
+    {A : Type 0} (refusal first second : A → ℕ) (done : Called A) (before after : Numbers) (bytes : List ℕ)
+    (one oneThen two twoThen answered : ℕ) : Type 0 where
+  pub number : answered ≡ refusal (done .answer)
+  pub memory : bytes ≡ done .memory
+  pub machine : after ≡ unlessRefused answered (numbersOf (done .state)) before
+  pub firstTold : oneThen ≡ unlessRefused answered (first (done .answer)) one
+  pub secondTold : twoThen ≡ unlessRefused answered (second (done .answer)) two
 
--- what run promises of the number that it answers, and of the machine's numbers, memory, end and steps after it
-pub record RunReturns
-    (mem layout stamps : List ℕ) (budget : ℕ) (before after : Numbers) (bytes : List ℕ) (end endThen steps stepsThen answered : ℕ)
-    : Type 0 where
-  pub number : answered ≡ runRefusal (runOn before mem layout stamps budget .answer)
-  pub memory : bytes ≡ runOn before mem layout stamps budget .memory
-  pub machine : after ≡ unlessRefused answered (numbersOf (runOn before mem layout stamps budget .state)) before
-  pub end-letter : endThen ≡ unlessRefused answered (runEnd (runOn before mem layout stamps budget .answer)) end
-  pub step-count : stepsThen ≡ unlessRefused answered (runSteps (runOn before mem layout stamps budget .answer)) steps
+-- what step promises: the two numbers are the kind's letter and the cause's number
+abbrev pub StepReturns : List ℕ → List ℕ → List ℕ → Numbers → Numbers → List ℕ → ℕ → ℕ → ℕ → ℕ → ℕ → Type 0
+StepReturns mem layout stamps before after bytes kind kindThen cause causeThen answered =
+    CallReturns stepRefusal stepKind stepCause (stepOn before mem layout stamps) before after bytes kind kindThen cause causeThen answered
+
+-- what run promises: the two numbers are the end's letter and how many steps were made
+abbrev pub RunReturns : List ℕ → List ℕ → List ℕ → ℕ → Numbers → Numbers → List ℕ → ℕ → ℕ → ℕ → ℕ → ℕ → Type 0
+RunReturns mem layout stamps budget before after bytes end endThen steps stepsThen answered =
+    CallReturns runRefusal runEnd runSteps (runOn before mem layout stamps budget) before after bytes end endThen steps stepsThen answered

@@ -3,16 +3,16 @@ ghost use mathlib.Core.Path.{_≡_};
 ghost use Rattle.definition.specs.Answers.{causeOf};
 ghost use Rattle.lentstate.specs.State.{numbers};
 ghost use Rattle.lentcalls.specs.Calls.{StartReturns, StepReturns, RunReturns};
-use definition::answer::Outcome;
-use definition::answer::RunAnswer;
-use definition::answer::StartAnswer;
-use definition::answer::StepAnswer;
+use answers::answer::Outcome;
+use answers::answer::RunAnswer;
+use answers::answer::StartAnswer;
+use answers::answer::StepAnswer;
 use lentlayout::numbers::layout_of;
 use lentstate::state::control_of;
 use lentstate::state::hand_back;
 use lentstate::state::hand_control;
-use lentstate::state::machine_of;
 use machine::calls::Machine;
+use machine::calls::run_in_place;
 use machine::calls::step_in_place;
 
 // The number of a step's cause, 0 where it is no reset.
@@ -96,14 +96,22 @@ pub fn run_lent(
 ) -> u8
     ensures { λ r. ⌜ RunReturns (now (mem .entry)) (now (layout .entry)) (now (stamps .entry)) budget (numbers (now (registers .entry)) (now (saved .entry)) (now (control .entry)) (now (time .entry))) (numbers (now (registers .exit)) (now (saved .exit)) (now (control .exit)) (now (time .exit))) (now (mem .exit)) (now (end .entry)) (now (end .exit)) (now (steps .entry)) (now (steps .exit)) r ⌝ }
 {
-    let m = Machine(machine_of(*registers, *saved, *control, *time));
-    let done = m.run(mem, layout_of(*layout), stamps, budget);
-    let last = done.machine.0;
+    let rest = control_of(*control, *time);
+    let done = run_in_place(
+        rest,
+        registers,
+        saved,
+        mem,
+        layout_of(*layout),
+        stamps,
+        budget,
+    );
+    let last = done.control;
     let answer = done.answer;
     match answer {
         RunAnswer::Refused(refusal) => refusal.number(),
         RunAnswer::Done(ending, made) => {
-            hand_back(last, registers, saved, control, time);
+            hand_control(last, control, time);
             *end = ending.letter();
             *steps = made;
             0

@@ -2,8 +2,8 @@
 use mathlib.Core.Path.{_≡_, ap}
 use mathlib.Core.List.{List}
 use Prim.Native.Nat.{ℕ}
-use Rattle.act.specs.declared.control.Control.{Control}
-use Rattle.act.specs.Control.{withRegisters}
+use Rattle.storage.specs.declared.control.Control.{Control}
+use Rattle.storage.specs.Control.{withRegisters}
 use Rattle.lentstate.specs.State.{timeFields, controlFields, numbers, machineOf, numbersOf}
 use Rattle.lentstate.specs.internal.Control.{controlFrom}
 

@@ -2,12 +2,12 @@
 ghost use mathlib.Core.Path.{_≡_};
 ghost use Rattle.lentstate.specs.State.{stampOf, stampNumber, timeOf, timeFields, oddFlag, contextOf, controlFields, numbers, machineOf, numbersOf};
 ghost use Rattle.lentstate.specs.internal.Control.{controlFrom};
-use act::control::Control;
 use base::word::byte_of;
 use definition::state::SavedContext;
 use definition::state::Stamp;
 use definition::state::State;
 use definition::state::Time;
+use storage::control::Control;
 
 // A stamp: 0 is none.
 fn stamp_of(n: u64) -> Stamp

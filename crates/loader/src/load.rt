@@ -6,11 +6,11 @@ ghost use lib.ListN.{length, set};
 ghost use lib.Seq.{sets};
 ghost use Rattle.base.specs.Limits.{memoryBytes};
 ghost use Rattle.loader.specs.Setup.{pieces, lineStored, memoryFrom, sheetMemory, stampOf, sheetStamps};
-use act::memory::put_word;
 use base::limits::MEMORY_BYTES;
 use lines::line::Content;
 use lines::line::Line;
 use lines::line::read_line;
+use storage::memory::put_word;
 use text::text::head;
 use text::text::rest;
 

@@ -12,12 +12,12 @@ use Rattle.base.specs.Verdict.{verdict}
 use Rattle.base.proofs.Tests.{if-true, if-false}
 use Rattle.definition.specs.Setting.{Setting}
 use Rattle.definition.specs.declared.state.State.{State}
-use Rattle.definition.specs.declared.answer.Outcome.{Outcome}
-use Rattle.definition.specs.declared.answer.StartAnswer.the-variants.{Done as HasStarted, Refused as NotStarted}
-use Rattle.definition.specs.declared.answer.StepAnswer.{StepAnswer}
-use Rattle.definition.specs.declared.answer.StepAnswer.the-variants.{Done as HasStepped, Refused as NotStepped}
-use Rattle.definition.specs.declared.answer.RunAnswer.{RunAnswer}
-use Rattle.definition.specs.declared.answer.RunAnswer.the-variants.{Refused as NotRun}
+use Rattle.answers.specs.declared.answer.Outcome.{Outcome}
+use Rattle.answers.specs.declared.answer.StartAnswer.the-variants.{Done as HasStarted, Refused as NotStarted}
+use Rattle.answers.specs.declared.answer.StepAnswer.{StepAnswer}
+use Rattle.answers.specs.declared.answer.StepAnswer.the-variants.{Done as HasStepped, Refused as NotStepped}
+use Rattle.answers.specs.declared.answer.RunAnswer.{RunAnswer}
+use Rattle.answers.specs.declared.answer.RunAnswer.the-variants.{Refused as NotRun}
 use Rattle.definition.specs.Memory.{byteAt, wordAt}
 use Rattle.definition.specs.Registers.{cleared}
 use Rattle.definition.specs.Time.{startTime}
@@ -27,8 +27,8 @@ use Rattle.definition.specs.Run.{stepOf}
 use Rattle.definition.specs.Calls.{wholeMemory, timetable, startTests, stepTests, runTests, called, runAnswered, startCall}
 use Rattle.definition.specs.Promises.{StartPromise, StepPromise, RunPromise}
 use Rattle.definition.proofs.run.CallLaws.{Fit, step-fit, run-fit, start-promised, step-promised, run-promised, step-call, run-call}
-use Rattle.act.specs.declared.control.Control.{Control}
-use Rattle.act.specs.Control.{withRegisters, controlOf}
+use Rattle.storage.specs.declared.control.Control.{Control}
+use Rattle.storage.specs.Control.{withRegisters, controlOf}
 
 no-word : resetAddress [] ≡ 0
 unfolding resetAddress wordAt byteAt
@@ -83,8 +83,8 @@ module _ (S : Setting) (mem bytes rs saved : List ℕ) (m next : State) (c d : C
       (subst (λ (z : Control). StepPromise S (world (withRegisters (m .registers) (m .saved) z) mem) (world (withRegisters rs saved d) bytes) answer) e p)
 
   pub run-with-registers : (budget : ℕ) (answer : RunAnswer)
-      → called (withRegisters rs saved d) bytes answer ≡ runAnswered S budget (world (withRegisters (m .registers) (m .saved) c) mem) taken
-      → called next bytes answer ≡ runAnswered S budget (world m mem) taken
-  run-with-registers budget answer h =
-      ap (λ (z : State). called z bytes answer) f ∙ h
-      ∙ ap (λ (z : Control). runAnswered S budget (world (withRegisters (m .registers) (m .saved) z) mem) taken) e
+      → RunPromise S budget (world (withRegisters (m .registers) (m .saved) c) mem) (world (withRegisters rs saved d) bytes) answer
+      → RunPromise S budget (world m mem) (world next bytes) answer
+  run-with-registers budget answer p =
+      subst (λ (z : State). RunPromise S budget (world m mem) (world z bytes) answer) (sym f)
+      (subst (λ (z : Control). RunPromise S budget (world (withRegisters (m .registers) (m .saved) z) mem) (world (withRegisters rs saved d) bytes) answer) e p)

@@ -1,9 +1,9 @@
 // What start, step and run hand back: the next machine, and beside it the answer.
 use crate::calls::Machine;
-use act::control::Control;
-use definition::answer::RunAnswer;
-use definition::answer::StartAnswer;
-use definition::answer::StepAnswer;
+use answers::answer::RunAnswer;
+use answers::answer::StartAnswer;
+use answers::answer::StepAnswer;
+use storage::control::Control;
 
 // What start hands back: the machine, and whether it was made.
 pub struct Started {

@@ -1,34 +1,31 @@
 // What callers can do: start, step, run. Whatever they hand in, they get the definition's answer or one numbered refusal.
-ghost use mathlib.Core.Path.{_≡_};
-ghost use mathlib.Core.Bool.{true};
-ghost use Rattle.base.specs.declared.verdict.Verdict.the-variants.{Taken as TAKEN};
 ghost use Rattle.definition.specs.Setting.{settingOf};
 ghost use Rattle.definition.specs.State.{world};
-ghost use Rattle.definition.specs.Calls.{timetable, called, runAnswered};
 ghost use Rattle.definition.specs.Promises.{StartPromise, StepPromise, RunPromise};
-ghost use Rattle.act.specs.Control.{withRegisters};
+ghost use Rattle.storage.specs.Control.{withRegisters};
 use crate::answer::Ran;
 use crate::answer::Started;
 use crate::answer::Stepped;
 use crate::answer::SteppedInPlace;
-use act::control::Control;
-use act::registers::cleared_registers;
 use admission::verdict::judge_run;
 use admission::verdict::judge_step;
 use admission::verdict::memory_is_whole;
+use answers::answer::RunAnswer;
+use answers::answer::StartAnswer;
+use answers::answer::StepAnswer;
 use base::refusal::Refusal;
 use base::verdict::Verdict;
 use clock::time::find_upcoming;
 use clock::time::start_time;
-use definition::answer::RunAnswer;
-use definition::answer::StartAnswer;
-use definition::answer::StepAnswer;
 use definition::state::State;
 use inplace::in_place::one_step;
 use interrupt::service::reset_address;
 use interrupt::service::reset_state;
 use layout::sections::Layout;
-use run::run::run_in_place;
+use run::run::InPlaceRun;
+use run::run::run_steps;
+use storage::control::Control;
+use storage::registers::cleared_registers;
 
 // The machine that callers hold, a state: each call takes it by value and hands the next one back. Memory is lent beside it.
 pub struct Machine(pub State);
@@ -78,12 +75,22 @@ impl Machine {
         ensures { λ r. ⌜ RunPromise (settingOf layout (now (stamps .entry))) budget (world (self .0) (now (mem .entry))) (world (r .machine .0) (now (mem .exit))) (r .answer) ⌝ }
     {
         let state = self.0;
-        match judge_run(state, mem, layout, stamps, budget) {
-            Verdict::Refused(refusal) => Ran {
-                machine: Machine(state),
-                answer: RunAnswer::Refused(refusal),
-            },
-            Verdict::Taken => run_steps(state, mem, layout, stamps, budget),
+        let mut registers = state.registers;
+        let mut saved = state.saved;
+        let done = run_in_place(
+            Control::of(state),
+            &mut registers,
+            &mut saved,
+            mem,
+            layout,
+            stamps,
+            budget,
+        );
+        let last = done.control;
+        let answer = done.answer;
+        Ran {
+            machine: Machine(last.state(registers, saved)),
+            answer: answer,
         }
     }
 }
@@ -117,26 +124,23 @@ pub fn step_in_place(
     }
 }
 
-// The steps of a run.
-fn run_steps(m: State, mem: &mut [u8], layout: Layout, stamps: &[u64], budget: u64) -> Ran
-    ensures { λ r. ⌜ (timetable (now (stamps .entry)) ≡ true → called (r .machine .0) (now (mem .exit)) (r .answer) ≡ runAnswered (settingOf layout (now (stamps .entry))) budget (world m (now (mem .entry))) TAKEN) ⌝ }
+// A run of a state whose registers are lent: they are changed where they lie.
+pub fn run_in_place(
+    control: Control,
+    registers: &mut [u16; 16],
+    saved: &mut [u16; 16],
+    mem: &mut [u8],
+    layout: Layout,
+    stamps: &[u64],
+    budget: u64,
+) -> InPlaceRun
+    ensures { λ r. ⌜ RunPromise (settingOf layout (now (stamps .entry))) budget (world (withRegisters (now (registers .entry)) (now (saved .entry)) control) (now (mem .entry))) (world (withRegisters (now (registers .exit)) (now (saved .exit)) (r .control)) (now (mem .exit))) (r .answer) ⌝ }
 {
-    let mut registers = m.registers;
-    let mut saved = m.saved;
-    let control = Control::of(m);
-    let done = run_in_place(
-        control,
-        &mut registers,
-        &mut saved,
-        mem,
-        layout,
-        stamps,
-        budget,
-    );
-    let last = done.control;
-    let answer = done.answer;
-    Ran {
-        machine: Machine(last.state(registers, saved)),
-        answer: answer,
+    match judge_run(control, registers, saved, mem, layout, stamps, budget) {
+        Verdict::Refused(refusal) => InPlaceRun {
+            control: control,
+            answer: RunAnswer::Refused(refusal),
+        },
+        Verdict::Taken => run_steps(control, registers, saved, mem, layout, stamps, budget),
     }
 }

@@ -17,7 +17,7 @@ use Rattle.definition.specs.declared.state.State.{State}
 use Rattle.definition.specs.State.{world, start}
 use Rattle.base.specs.Verdict.{verdict}
 use Rattle.definition.specs.Calls.{timetable, transcriptTests, wholeMemory, Called, called, startAnswered, startCall}
-use Rattle.definition.specs.declared.answer.StartAnswer.{StartAnswer}
+use Rattle.answers.specs.declared.answer.StartAnswer.{StartAnswer}
 use Rattle.base.specs.FirstFailure.{firstFailure}
 use Rattle.base.specs.declared.verdict.Verdict.{Verdict}
 use Rattle.definition.proofs.frame.FrameLaws.{ready-at-start}

@@ -1,7 +1,7 @@
 // A sheet's reading: its refusal, or how its run ends.
+use answers::answer::RunAnswer;
 use base::limits::MEMORY_BYTES;
 use console::print;
-use definition::answer::RunAnswer;
 use loader::load::load_memory;
 use loader::load::load_stamps;
 use machine::calls::Machine;

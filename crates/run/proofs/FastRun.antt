@@ -6,7 +6,7 @@ use Prim.Native.Nat.{ℕ, suc, _+_, _-_, _≤_}
 use native.Mathlib.Omega.{arith}
 use Rattle.base.specs.Limits.{lastClock}
 use Rattle.definition.specs.Setting.{Setting}
-use Rattle.definition.specs.declared.answer.Outcome.the-variants.{Ran}
+use Rattle.answers.specs.declared.answer.Outcome.the-variants.{Ran}
 use Rattle.definition.specs.State.{World}
 use Rattle.definition.specs.Interrupt.{Step, gives}
 use Rattle.definition.specs.Run.{worldAfter, stepOf, runFrom, stopOr}

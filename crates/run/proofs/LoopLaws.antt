@@ -9,8 +9,8 @@ use Rattle.base.proofs.Tests.{if-true, if-false}
 use Rattle.base.specs.Limits.{lastClock}
 use Rattle.definition.specs.Setting.{Setting}
 use Rattle.definition.specs.declared.state.State.{State}
-use Rattle.definition.specs.declared.answer.End.{End}
-use Rattle.definition.specs.declared.answer.End.the-variants.{Halted, Clock, Spent}
+use Rattle.answers.specs.declared.answer.End.{End}
+use Rattle.answers.specs.declared.answer.End.the-variants.{Halted, Clock, Spent}
 use Rattle.definition.specs.State.{World}
 use Rattle.definition.specs.Run.{goes, stops, ending, runFrom, run, stopOr}
 use Rattle.clock.specs.Upcoming.{StampsPassed, IsUpcoming, stepRoom, CanPass}

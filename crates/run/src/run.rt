@@ -5,13 +5,12 @@ ghost use Rattle.base.specs.declared.verdict.Verdict.the-variants.{Taken as TAK
 ghost use Rattle.definition.specs.Setting.{settingOf};
 ghost use Rattle.definition.specs.State.{world};
 ghost use Rattle.definition.specs.Calls.{timetable, called, runAnswered};
-ghost use Rattle.act.specs.Control.{withRegisters};
-use act::control::Control;
+ghost use Rattle.storage.specs.Control.{withRegisters};
+use answers::answer::End;
+use answers::answer::RunAnswer;
 use base::limits::LAST_CLOCK;
 use clock::time::find_upcoming;
 use clock::time::skip_passed;
-use definition::answer::End;
-use definition::answer::RunAnswer;
 use fast::steps::fast_steps;
 use inplace::in_place::after_fast;
 use inplace::in_place::fast_until;
@@ -19,6 +18,7 @@ use inplace::in_place::put_back;
 use layout::sections::Layout;
 use step::step::is_held;
 use step::step::take_step;
+use storage::control::Control;
 
 // What a run leaves beside the registers, which it changes where they lie.
 pub struct InPlaceRun {
@@ -28,7 +28,7 @@ pub struct InPlaceRun {
 
 // The steps of a run, counted. Where there is a burst of fast steps it is taken, else one step; the index of the upcoming stamp goes along
 // with the clock, and the registers stay where they lie.
-pub fn run_in_place(
+pub fn run_steps(
     control: Control,
     registers: &mut [u16; 16],
     saved: &mut [u16; 16],

@@ -1,7 +1,7 @@
 // The bytes of the memory.
 use crate::words::word;
-use act::memory::put_word;
 use base::word::sum;
+use storage::memory::put_word;
 
 // A word at an address, where it is wanted.
 fn put_wanted(mem: &mut [u8], a: u16, w: u16, wanted: bool) {

@@ -2,7 +2,6 @@
 use crate::line::Line;
 use crate::words::byte;
 use crate::words::word;
-use act::registers::set_register;
 use base::limits::MEMORY_BYTES;
 use definition::state::SavedContext;
 use definition::state::Stamp;
@@ -10,6 +9,7 @@ use definition::state::State;
 use definition::state::Time;
 use layout::sections::Layout;
 use layout::sections::Span;
+use storage::registers::set_register;
 
 // The world of a call. The bytes and the stamps themselves stand in buffers beside it.
 pub struct World {

@@ -10,10 +10,10 @@ use Rattle.layout.specs.Rules.{accepted}
 use Rattle.definition.specs.Setting.{Setting}
 use Rattle.definition.specs.declared.state.Time.{Time}
 use Rattle.definition.specs.declared.state.SavedContext.the-variants.{Unheld, Held}
-use Rattle.definition.specs.declared.answer.Outcome.{Outcome}
-use Rattle.definition.specs.declared.answer.Outcome.the-variants.{Ran, Plain, Padded, Chained, Back, Reset, Halted}
+use Rattle.answers.specs.declared.answer.Outcome.{Outcome}
+use Rattle.answers.specs.declared.answer.Outcome.the-variants.{Ran, Plain, Padded, Chained, Back, Reset, Halted}
 use Rattle.definition.specs.Registers.{pc, cleared}
-use Rattle.definition.specs.Outcome.{isReset}
+use Rattle.answers.specs.Outcome.{isReset}
 use Rattle.definition.specs.Time.{pass, emptied}
 use Rattle.definition.specs.State.{World, vector, isHeld, resetAddress, start}
 use Rattle.definition.specs.Interrupt.{Step}

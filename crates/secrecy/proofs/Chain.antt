@@ -13,7 +13,7 @@ use Rattle.base.specs.FirstFailure.{Test}
 use Rattle.base.specs.Verdict.{verdict}
 use Rattle.layout.specs.Rules.{accepted}
 use Rattle.definition.specs.Setting.{Setting}
-use Rattle.definition.specs.declared.answer.End.the-variants.{Spent}
+use Rattle.answers.specs.declared.answer.End.the-variants.{Spent}
 use Rattle.definition.specs.State.{World, world}
 use Rattle.definition.specs.Run.{Going, goes, stops, ending, Stop, Move, worldAfter, stepOf, stopOr, runFrom, run, noneOr, moves}
 use Rattle.definition.specs.Calls.{stepTests, runTests, stepCall, runCall}

@@ -13,10 +13,10 @@ use Rattle.definition.specs.declared.state.Time.{Time}
 use Rattle.definition.specs.declared.state.SavedContext.{SavedContext}
 use Rattle.definition.specs.declared.state.SavedContext.the-variants.{Unheld, Held}
 use Rattle.definition.specs.declared.state.State.{State}
-use Rattle.definition.specs.declared.answer.Outcome.{Outcome}
-use Rattle.definition.specs.declared.answer.Outcome.the-variants.{Plain, Padded}
+use Rattle.answers.specs.declared.answer.Outcome.{Outcome}
+use Rattle.answers.specs.declared.answer.Outcome.the-variants.{Plain, Padded}
 use Rattle.definition.specs.Registers.{pc}
-use Rattle.definition.specs.Outcome.{isReset}
+use Rattle.answers.specs.Outcome.{isReset}
 use Rattle.definition.specs.Time.{pass, emptied}
 use Rattle.definition.specs.State.{World, isHeld, world}
 use Rattle.definition.specs.declared.judge.Judged.the-variants.{Acts}

@@ -15,7 +15,7 @@ use Rattle.layout.specs.Sections.{inside}
 use Rattle.layout.specs.Rules.{accepted}
 use Rattle.definition.specs.Setting.{Setting}
 use Rattle.definition.specs.declared.state.SavedContext.the-variants.{Unheld}
-use Rattle.definition.specs.declared.answer.StartAnswer.the-variants.{Done, Refused}
+use Rattle.answers.specs.declared.answer.StartAnswer.the-variants.{Done, Refused}
 use Rattle.definition.specs.State.{World, world, start}
 use Rattle.definition.specs.Calls.{startTests, startCall}
 use Rattle.definition.specs.Laws.{SameOutside}

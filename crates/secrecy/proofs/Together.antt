@@ -17,7 +17,7 @@ use Rattle.definition.specs.declared.state.Time.{Time}
 use Rattle.definition.specs.declared.state.SavedContext.{SavedContext}
 use Rattle.definition.specs.declared.state.SavedContext.the-variants.{Unheld, Held}
 use Rattle.definition.specs.Registers.{pc, sr}
-use Rattle.definition.specs.Outcome.{isReset}
+use Rattle.answers.specs.Outcome.{isReset}
 use Rattle.definition.specs.State.{World, isHeld}
 use Rattle.definition.specs.Interrupt.{Step}
 use Rattle.definition.specs.Run.{Move, worldAfter, stepOf}

@@ -16,7 +16,7 @@ use Rattle.definition.specs.declared.state.SavedContext.{SavedContext}
 use Rattle.definition.specs.declared.state.SavedContext.the-variants.{Unheld, Held}
 use Rattle.definition.specs.declared.state.State.{State}
 use Rattle.definition.specs.Registers.{pc}
-use Rattle.definition.specs.Outcome.{isReset}
+use Rattle.answers.specs.Outcome.{isReset}
 use Rattle.definition.specs.State.{World, isHeld}
 use Rattle.definition.specs.Interrupt.{Step}
 use Rattle.definition.specs.Run.{Move, worldAfter, stepOf}

@@ -21,10 +21,10 @@ use Rattle.definition.specs.declared.state.Stamp.the-variants.{Never, At}
 use Rattle.definition.specs.declared.state.Time.{Time}
 use Rattle.definition.specs.declared.state.SavedContext.the-variants.{Unheld, Held}
 use Rattle.definition.specs.declared.state.State.{State}
-use Rattle.definition.specs.declared.answer.Cause.{Cause}
-use Rattle.definition.specs.declared.answer.Outcome.{Outcome}
+use Rattle.answers.specs.declared.answer.Cause.{Cause}
+use Rattle.answers.specs.declared.answer.Outcome.{Outcome}
 use Rattle.definition.specs.Registers.{pc, sr, cleared}
-use Rattle.definition.specs.Outcome.{isReset}
+use Rattle.answers.specs.Outcome.{isReset}
 use Rattle.definition.specs.Time.{pass, emptied}
 use Rattle.definition.specs.State.{vector, isHeld, resetAddress, framed, start, world}
 use Rattle.definition.specs.declared.judge.Judged.the-variants.{Acts}

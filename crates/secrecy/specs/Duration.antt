@@ -15,11 +15,11 @@ use Rattle.definition.specs.declared.state.Stamp.the-variants.{Never, At}
 use Rattle.definition.specs.declared.state.Time.{Time}
 use Rattle.definition.specs.declared.state.SavedContext.the-variants.{Held}
 use Rattle.definition.specs.declared.state.State.{State}
-use Rattle.definition.specs.declared.answer.Outcome.{Outcome}
-use Rattle.definition.specs.declared.answer.Outcome.the-variants.{Ran, Plain, Padded, Chained, Back, Reset, Halted}
-use Rattle.definition.specs.declared.answer.StartAnswer.the-variants.{Done}
+use Rattle.answers.specs.declared.answer.Outcome.{Outcome}
+use Rattle.answers.specs.declared.answer.Outcome.the-variants.{Ran, Plain, Padded, Chained, Back, Reset, Halted}
+use Rattle.answers.specs.declared.answer.StartAnswer.the-variants.{Done}
 use Rattle.definition.specs.Registers.{pc, sr}
-use Rattle.definition.specs.Outcome.{isReset}
+use Rattle.answers.specs.Outcome.{isReset}
 use Rattle.definition.specs.Time.{pass}
 use Rattle.definition.specs.State.{World, isHeld}
 use Rattle.definition.specs.declared.judge.Judged.the-variants.{Acts}

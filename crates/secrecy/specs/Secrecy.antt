@@ -10,7 +10,7 @@ use Rattle.layout.specs.Sections.{outside}
 use Rattle.definition.specs.Setting.{Setting}
 use Rattle.definition.specs.declared.state.Time.{Time}
 use Rattle.definition.specs.declared.state.State.{State}
-use Rattle.definition.specs.declared.answer.StartAnswer.the-variants.{Done}
+use Rattle.answers.specs.declared.answer.StartAnswer.the-variants.{Done}
 use Rattle.definition.specs.Memory.{byteAt}
 use Rattle.definition.specs.State.{World, world}
 use Rattle.definition.specs.Run.{Move}

@@ -10,7 +10,7 @@ use Rattle.definition.specs.Setting.{Setting}
 use Rattle.definition.specs.declared.state.Time.{Time}
 use Rattle.definition.specs.declared.state.State.{State}
 use Rattle.definition.specs.Registers.{pc}
-use Rattle.definition.specs.Outcome.{isReset}
+use Rattle.answers.specs.Outcome.{isReset}
 use Rattle.definition.specs.State.{World, isHeld}
 use Rattle.definition.specs.declared.judge.Judged.{Judged}
 use Rattle.definition.specs.declared.judge.Judged.the-variants.{Faulty, Acts}

@@ -14,7 +14,7 @@ use Rattle.definition.specs.declared.state.Stamp.{Stamp}
 use Rattle.definition.specs.declared.state.SavedContext.{SavedContext}
 use Rattle.definition.specs.declared.state.SavedContext.the-variants.{Unheld, Held}
 use Rattle.definition.specs.declared.state.State.{State}
-use Rattle.definition.specs.declared.answer.Outcome.the-variants.{Ran, Halted}
+use Rattle.answers.specs.declared.answer.Outcome.the-variants.{Ran, Halted}
 use Rattle.definition.specs.Registers.{pc}
 use Rattle.definition.specs.Time.{pass}
 use Rattle.definition.specs.declared.judge.Judged.{Judged}

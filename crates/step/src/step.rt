@@ -8,12 +8,10 @@ ghost use Rattle.definition.specs.Step.{alarmed, isHlt, savedFor, executed, ord
 ghost use Rattle.clock.specs.Upcoming.{clockRoom, stepRoom, CanPass};
 use act::instruction::memory_after;
 use act::instruction::registers_after;
-use act::registers::read_register;
-use act::registers::zero_registers;
+use answers::answer::Outcome;
 use clock::time::device_word;
 use clock::time::set_alarm;
 use clock::time::wait;
-use definition::answer::Outcome;
 use definition::judge::Judged;
 use definition::state::SavedContext;
 use definition::state::Stamp;
@@ -28,6 +26,8 @@ use isa::instruction::Instruction;
 use judge::causes::is_reti;
 use judge::causes::judge;
 use layout::sections::Layout;
+use storage::registers::read_register;
+use storage::registers::zero_registers;
 
 // OUT sets the alarm after its cycles.
 fn alarmed_time(registers: [u16; 16], i: Instruction, t: Time) -> Time

@@ -8,7 +8,7 @@ use borrow.Author.Tests.{lt-ltb, le-ltb, le-leb, lt-leb, ltb-false, leb-false}
 use Rattle.base.specs.Test.{if_then_else_}
 use Rattle.base.specs.Limits.{lastClock}
 use Rattle.base.proofs.Tests.{if-true, if-false}
-use Rattle.definition.specs.declared.answer.End.the-variants.{Halted, Clock, Spent}
+use Rattle.answers.specs.declared.answer.End.the-variants.{Halted, Clock, Spent}
 use Rattle.steplines.specs.declared.steps.Course.the-variants.{Goes, Stops}
 use Rattle.steplines.specs.internal.Course.{course, goesOn}
 

@@ -12,16 +12,16 @@ use Rattle.base.specs.Test.{if_then_else_}
 use Rattle.base.specs.Limits.{lastClock}
 use Rattle.base.proofs.Tests.{if-true, if-false}
 use Rattle.definition.specs.Setting.{Setting}
-use Rattle.definition.specs.declared.answer.End.{End}
-use Rattle.definition.specs.declared.answer.End.the-variants.{Halted, Clock, Spent}
-use Rattle.definition.specs.declared.answer.Outcome.{Outcome}
+use Rattle.answers.specs.declared.answer.End.{End}
+use Rattle.answers.specs.declared.answer.End.the-variants.{Halted, Clock, Spent}
+use Rattle.answers.specs.declared.answer.Outcome.{Outcome}
 use Rattle.definition.specs.declared.state.State.{State}
 use Rattle.definition.specs.State.{World, world}
 use Rattle.definition.specs.Interrupt.{Step, gives}
 use Rattle.definition.specs.Run.{goes, stops, ending, worldAfter, stepOf}
 use Rattle.definition.specs.Calls.{timetable}
-use Rattle.act.specs.declared.control.Control.{Control}
-use Rattle.act.specs.Control.{withRegisters}
+use Rattle.storage.specs.declared.control.Control.{Control}
+use Rattle.storage.specs.Control.{withRegisters}
 use Rattle.definition.proofs.step.CycleLaws.{clock-rises}
 use Rattle.steplines.specs.declared.steps.StepsWritten.{StepsWritten}
 use Rattle.transcript.specs.Transcript.{endLine}

@@ -5,8 +5,8 @@ use lib.Dec.{ltb}
 use lib.ListN.{length}
 use Rattle.base.specs.Test.{if_then_else_}
 use Rattle.definition.specs.Setting.{Setting}
-use Rattle.definition.specs.declared.answer.End.{End}
-use Rattle.definition.specs.declared.answer.End.the-variants.{Spent}
+use Rattle.answers.specs.declared.answer.End.{End}
+use Rattle.answers.specs.declared.answer.End.the-variants.{Spent}
 use Rattle.definition.specs.Registers.{pc, sr}
 use Rattle.definition.specs.State.{World}
 use Rattle.definition.specs.Interrupt.{Step}

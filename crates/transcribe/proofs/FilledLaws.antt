@@ -21,8 +21,8 @@ use Rattle.definition.specs.Run.{runFrom, run}
 use Rattle.definition.specs.Calls.{timetable, transcriptTests}
 use Rattle.definition.specs.Laws.{worldAt}
 use Rattle.definition.proofs.run.CallLaws.{all-hold}
-use Rattle.act.specs.declared.control.Control.{Control}
-use Rattle.act.specs.Control.{withRegisters, controlOf}
+use Rattle.storage.specs.declared.control.Control.{Control}
+use Rattle.storage.specs.Control.{withRegisters, controlOf}
 use Rattle.transcript.specs.Transcript.{headerLine, refusalLine}
 use Rattle.transcript.proofs.TranscriptLaws.{sets-append}
 use Rattle.steplines.specs.declared.remaining.Remaining.{Remaining}

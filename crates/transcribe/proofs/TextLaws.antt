@@ -11,8 +11,8 @@ use Rattle.base.specs.Test.{if_then_else_}
 use Rattle.base.proofs.Tests.{choose, if-true, if-false}
 use Rattle.base.specs.declared.refusal.Refusal.{Refusal}
 use Rattle.definition.specs.Setting.{Setting}
-use Rattle.definition.specs.declared.answer.End.{End}
-use Rattle.definition.specs.declared.answer.End.the-variants.{Spent}
+use Rattle.answers.specs.declared.answer.End.{End}
+use Rattle.answers.specs.declared.answer.End.the-variants.{Spent}
 use Rattle.definition.specs.State.{World}
 use Rattle.definition.specs.Run.{Going, goes, stops, ending, Move, worldAfter, stepOf, stopOr, runFrom, noneOr, moves}
 use Rattle.definition.specs.Laws.{worldAt}

@@ -15,7 +15,6 @@ ghost use Rattle.transcribe.specs.Promise.{worldOf, pageBy};
 ghost use Rattle.transcribe.specs.internal.Filled.{fromHeader, PageFilled};
 use crate::progress::Filled;
 use crate::progress::Transcript;
-use act::control::Control;
 use admission::verdict::judge_transcript;
 use base::refusal::Refusal;
 use base::verdict::Verdict;
@@ -23,6 +22,7 @@ use layout::sections::Layout;
 use steplines::remaining::Remaining;
 use steplines::steps::LINE_ROOM;
 use steplines::steps::write_steps;
+use storage::control::Control;
 use transcript::line::header_line;
 use transcript::line::refusal_line;
 

@@ -5,9 +5,9 @@ use lib.Dec.{eqb, ltb}
 use Rattle.base.specs.Test.{if_then_else_}
 use Rattle.base.specs.declared.refusal.Refusal.{Refusal}
 use Rattle.base.specs.Refusal.{refusalNumber}
-use Rattle.definition.specs.declared.answer.Outcome.{Outcome}
-use Rattle.definition.specs.declared.answer.End.{End}
-use Rattle.definition.specs.Outcome.{kindLetter, endLetter}
+use Rattle.answers.specs.declared.answer.Outcome.{Outcome}
+use Rattle.answers.specs.declared.answer.End.{End}
+use Rattle.answers.specs.Outcome.{kindLetter, endLetter}
 use Rattle.text.specs.Text.{tab, newline}
 
 -- the last of at most n digits before those that stand already

@@ -6,9 +6,9 @@ ghost use lib.ListN.{length, drop, set};
 ghost use lib.Seq.{sets};
 ghost use Rattle.text.specs.Text.{tab};
 ghost use Rattle.transcript.specs.Transcript.{decimalBytes, hexByte, hexBytes, headerLine, stepLine, endLine, refusalLine};
+use answers::answer::End;
+use answers::answer::Outcome;
 use base::refusal::Refusal;
-use definition::answer::End;
-use definition::answer::Outcome;
 
 // The digits of a decimal: those from the start on.
 pub struct Digits {

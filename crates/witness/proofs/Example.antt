@@ -5,8 +5,8 @@ use mathlib.Core.List.{List, [], _∷_, _++_}
 use Prim.Native.Nat.{ℕ}
 use lib.ListN.{length}
 use Rattle.layout.specs.Sections.{outside}
-use Rattle.definition.specs.declared.answer.Outcome.the-variants.{Ran, Back}
-use Rattle.definition.specs.declared.answer.StartAnswer.the-variants.{Done}
+use Rattle.answers.specs.declared.answer.Outcome.the-variants.{Ran, Back}
+use Rattle.answers.specs.declared.answer.StartAnswer.the-variants.{Done}
 use Rattle.definition.specs.Memory.{byteAt}
 use Rattle.definition.specs.Run.{Move}
 use Rattle.secrecy.specs.Sighting.{sightings}

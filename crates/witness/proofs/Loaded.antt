@@ -14,7 +14,7 @@ use Rattle.base.specs.Verdict.{verdict}
 use Rattle.layout.specs.declared.sections.Layout.{Layout}
 use Rattle.layout.specs.Sections.{outside}
 use Rattle.layout.specs.Rules.{accepted}
-use Rattle.definition.specs.declared.answer.StartAnswer.the-variants.{Done}
+use Rattle.answers.specs.declared.answer.StartAnswer.the-variants.{Done}
 use Rattle.definition.specs.Memory.{byteAt}
 use Rattle.definition.specs.Calls.{Called, startCall}
 use Rattle.definition.proofs.instruction.MemoryLaws.{put-length, put-side}

@@ -10,8 +10,8 @@ use Rattle.layout.specs.declared.sections.Layout.{Layout}
 use Rattle.layout.specs.Sections.{outside}
 use Rattle.definition.specs.declared.state.Time.{Time}
 use Rattle.definition.specs.declared.state.State.{State}
-use Rattle.definition.specs.declared.answer.Outcome.the-variants.{Ran, Padded, Back, Halted}
-use Rattle.definition.specs.declared.answer.StartAnswer.the-variants.{Done}
+use Rattle.answers.specs.declared.answer.Outcome.the-variants.{Ran, Padded, Back, Halted}
+use Rattle.answers.specs.declared.answer.StartAnswer.the-variants.{Done}
 use Rattle.definition.specs.Memory.{byteAt}
 use Rattle.definition.specs.State.{World}
 use Rattle.definition.specs.Interrupt.{Step}

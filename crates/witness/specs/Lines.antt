@@ -5,7 +5,7 @@ use lib.ListN.{replicate}
 use Rattle.base.specs.Limits.{memoryBytes}
 use Rattle.definition.specs.declared.state.Time.{Time}
 use Rattle.definition.specs.declared.state.State.{State}
-use Rattle.definition.specs.declared.answer.Outcome.{Outcome}
+use Rattle.answers.specs.declared.answer.Outcome.{Outcome}
 use Rattle.definition.specs.Memory.{putWord}
 use Rattle.definition.specs.Registers.{pc, sp, sr}
 use Rattle.definition.specs.State.{World}

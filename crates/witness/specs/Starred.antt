@@ -8,7 +8,7 @@ use Rattle.definition.specs.Setting.{settingOf}
 use Rattle.isa.specs.Starred.{wordCases}
 use Rattle.alu.specs.Starred.{sumCases}
 use Rattle.layout.specs.Starred.{sheetLayout, accessCases}
-use Rattle.definition.specs.declared.answer.Outcome.the-variants.{Ran, Plain, Padded, Back, Halted}
+use Rattle.answers.specs.declared.answer.Outcome.the-variants.{Ran, Plain, Padded, Back, Halted}
 use Rattle.definition.specs.State.{world, start}
 use Rattle.definition.specs.Run.{moves}
 use Rattle.witness.specs.Lines.{MLine, M, loaded, StepLine, line, linesOf}

@@ -20,7 +20,7 @@ use Rattle.layout.specs.declared.access.Right.{Right}
 use Rattle.layout.specs.declared.access.Right.the-variants.{Execute as execute, Read as read, Write as write}
 use Rattle.layout.specs.Sections.{inside, sameSide}
 use Rattle.layout.specs.Access.{may}
-use Rattle.definition.specs.declared.answer.Cause.the-variants.{SecondSide}
+use Rattle.answers.specs.declared.answer.Cause.the-variants.{SecondSide}
 use Rattle.definition.specs.Memory.{wordAt}
 use Rattle.definition.specs.Registers.{pc}
 use Rattle.definition.specs.declared.judge.Judged.{Judged}

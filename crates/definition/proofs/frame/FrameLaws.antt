@@ -26,7 +26,7 @@ use Rattle.definition.specs.declared.state.Time.{Time}
 use Rattle.definition.specs.declared.state.SavedContext.{SavedContext}
 use Rattle.definition.specs.declared.state.SavedContext.the-variants.{Unheld, Held}
 use Rattle.definition.specs.declared.state.State.{State}
-use Rattle.definition.specs.declared.answer.Cause.{Cause}
+use Rattle.answers.specs.declared.answer.Cause.{Cause}
 use Rattle.definition.specs.Memory.{wordAt}
 use Rattle.definition.specs.Registers.{sp, sr, cleared}
 use Rattle.definition.specs.Time.{pass, emptied}

@@ -16,11 +16,11 @@ use Rattle.base.proofs.Refusals.{number-not-zero}
 use Rattle.base.proofs.Tests.{Each, none-fails}
 use Rattle.definition.specs.Setting.{Setting}
 use Rattle.definition.specs.declared.state.State.{State}
-use Rattle.definition.specs.declared.answer.StartAnswer.{StartAnswer}
-use Rattle.definition.specs.declared.answer.StepAnswer.{StepAnswer}
-use Rattle.definition.specs.declared.answer.RunAnswer.{RunAnswer}
+use Rattle.answers.specs.declared.answer.StartAnswer.{StartAnswer}
+use Rattle.answers.specs.declared.answer.StepAnswer.{StepAnswer}
+use Rattle.answers.specs.declared.answer.RunAnswer.{RunAnswer}
 use Rattle.definition.specs.State.{World, world}
-use Rattle.definition.specs.Outcome.{kindLetter, endLetter}
+use Rattle.answers.specs.Outcome.{kindLetter, endLetter}
 use Rattle.definition.specs.Run.{stepOf, run}
 use Rattle.definition.specs.Answers.{startRefusal, stepRefusal, runRefusal, causeOf, stepKind, stepCause, runEnd, runSteps}
 use Rattle.definition.specs.Calls.{timetable, startTests, stepTests, runTests, Called, called, startAnswered, stepAnswered, runAnswered, startCall, stepCall, runCall}

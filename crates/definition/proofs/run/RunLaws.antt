@@ -12,9 +12,9 @@ use Rattle.base.proofs.Tests.{choose}
 use Rattle.base.specs.Limits.{lastClock}
 use Rattle.definition.specs.Setting.{Setting}
 use Rattle.definition.specs.declared.state.State.{State}
-use Rattle.definition.specs.declared.answer.End.{End}
-use Rattle.definition.specs.declared.answer.End.the-variants.{Halted, Clock, Spent}
-use Rattle.definition.specs.Outcome.{endLetter}
+use Rattle.answers.specs.declared.answer.End.{End}
+use Rattle.answers.specs.declared.answer.End.the-variants.{Halted, Clock, Spent}
+use Rattle.answers.specs.Outcome.{endLetter}
 use Rattle.definition.specs.State.{World}
 use Rattle.definition.specs.Run.{Going, goes, stops, ending, Stop, worldAfter, stepOf, runFrom, run, moves, stopOr, noneOr}
 use Rattle.definition.specs.Laws.{RunCounts, EndsSo, RunEnds, RunAdds, worldAt, afterSteps}

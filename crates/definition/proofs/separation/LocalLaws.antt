@@ -15,7 +15,7 @@ use Rattle.definition.specs.declared.state.Time.{Time}
 use Rattle.definition.specs.declared.state.SavedContext.{SavedContext}
 use Rattle.definition.specs.declared.state.SavedContext.the-variants.{Unheld, Held}
 use Rattle.definition.specs.declared.state.State.{State}
-use Rattle.definition.specs.declared.answer.Outcome.the-variants.{Ran}
+use Rattle.answers.specs.declared.answer.Outcome.the-variants.{Ran}
 use Rattle.definition.specs.Registers.{pc}
 use Rattle.definition.specs.Time.{deviceWord}
 use Rattle.definition.specs.State.{isHeld, framed}

@@ -14,9 +14,9 @@ use Rattle.definition.specs.declared.state.Stamp.the-variants.{Never, At
 use Rattle.definition.specs.declared.state.Time.{Time}
 use Rattle.definition.specs.declared.state.SavedContext.{SavedContext}
 use Rattle.definition.specs.declared.state.State.{State}
-use Rattle.definition.specs.declared.answer.Cause.{Cause}
-use Rattle.definition.specs.declared.answer.Outcome.{Outcome}
-use Rattle.definition.specs.declared.answer.Outcome.the-variants.{Back}
+use Rattle.answers.specs.declared.answer.Cause.{Cause}
+use Rattle.answers.specs.declared.answer.Outcome.{Outcome}
+use Rattle.answers.specs.declared.answer.Outcome.the-variants.{Back}
 use Rattle.definition.specs.State.{vector, resetAddress, isHeld}
 use Rattle.definition.specs.Interrupt.{gives, reset, plain, padded, interrupted, chained, resumed}
 use Rattle.definition.specs.Laws.{SameOutside, SameStep, isResuming, SeenAlike, alike, resuming}

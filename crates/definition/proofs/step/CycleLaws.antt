@@ -10,7 +10,7 @@ use Rattle.definition.specs.Setting.{Setting}
 use Rattle.definition.specs.declared.state.SavedContext.{SavedContext}
 use Rattle.definition.specs.declared.state.SavedContext.the-variants.{Unheld, Held}
 use Rattle.definition.specs.declared.state.State.{State}
-use Rattle.definition.specs.declared.answer.Cause.{Cause}
+use Rattle.answers.specs.declared.answer.Cause.{Cause}
 use Rattle.definition.specs.Time.{pass, emptied}
 use Rattle.definition.specs.Interrupt.{Step, ageOf, reset, plain, padded, chained, back}
 use Rattle.definition.specs.Step.{step}

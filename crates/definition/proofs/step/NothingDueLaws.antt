@@ -9,8 +9,8 @@ use Rattle.isa.specs.Cycles.{cyclesOf}
 use Rattle.definition.specs.Setting.{Setting}
 use Rattle.definition.specs.declared.state.SavedContext.the-variants.{Held}
 use Rattle.definition.specs.declared.state.State.{State}
-use Rattle.definition.specs.declared.answer.Outcome.the-variants.{Padded}
-use Rattle.definition.specs.Outcome.{kindLetter}
+use Rattle.answers.specs.declared.answer.Outcome.the-variants.{Padded}
+use Rattle.answers.specs.Outcome.{kindLetter}
 use Rattle.definition.specs.Time.{pass}
 use Rattle.definition.specs.State.{start, framed}
 use Rattle.definition.specs.Interrupt.{Step, ageOf, reset, plain, padded, chained, back}

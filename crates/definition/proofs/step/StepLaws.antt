@@ -17,8 +17,8 @@ use Rattle.definition.specs.declared.state.Time.{Time}
 use Rattle.definition.specs.declared.state.SavedContext.{SavedContext}
 use Rattle.definition.specs.declared.state.SavedContext.the-variants.{Unheld, Held}
 use Rattle.definition.specs.declared.state.State.{State}
-use Rattle.definition.specs.declared.answer.Cause.{Cause}
-use Rattle.definition.specs.declared.answer.Outcome.the-variants.{Ran, Back, Halted}
+use Rattle.answers.specs.declared.answer.Cause.{Cause}
+use Rattle.answers.specs.declared.answer.Outcome.the-variants.{Ran, Back, Halted}
 use Rattle.definition.specs.Registers.{pc}
 use Rattle.definition.specs.Time.{pass}
 use Rattle.definition.specs.State.{isHeld, world}

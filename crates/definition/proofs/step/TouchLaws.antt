@@ -17,13 +17,13 @@ use Rattle.layout.proofs.SectionLaws.{section-outside, data-not-outside}
 use Rattle.layout.proofs.AccessLaws.{elsewhere-touches-outside, inside-touches-data}
 use Rattle.definition.specs.Setting.{Setting}
 use Rattle.definition.specs.declared.state.State.{State}
-use Rattle.definition.specs.declared.answer.Cause.{Cause}
-use Rattle.definition.specs.declared.answer.Cause.the-variants.{Write as barred}
-use Rattle.definition.specs.declared.answer.Outcome.{Outcome}
-use Rattle.definition.specs.declared.answer.Outcome.the-variants.{Reset}
+use Rattle.answers.specs.declared.answer.Cause.{Cause}
+use Rattle.answers.specs.declared.answer.Cause.the-variants.{Write as barred}
+use Rattle.answers.specs.declared.answer.Outcome.{Outcome}
+use Rattle.answers.specs.declared.answer.Outcome.the-variants.{Reset}
 use Rattle.definition.specs.Memory.{byteAt, putWord}
 use Rattle.definition.specs.Registers.{register, pc, cleared}
-use Rattle.definition.specs.Outcome.{isReset}
+use Rattle.answers.specs.Outcome.{isReset}
 use Rattle.definition.specs.Time.{emptied}
 use Rattle.definition.specs.State.{world}
 use Rattle.definition.specs.declared.judge.Judged.the-variants.{Acts}

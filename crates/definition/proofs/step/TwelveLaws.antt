@@ -8,7 +8,7 @@ use Rattle.definition.specs.Setting.{Setting}
 use Rattle.definition.specs.declared.state.Stamp.the-variants.{Never, At}
 use Rattle.definition.specs.declared.state.Time.{Time}
 use Rattle.definition.specs.declared.state.State.{State}
-use Rattle.definition.specs.declared.answer.Outcome.the-variants.{Padded}
+use Rattle.answers.specs.declared.answer.Outcome.the-variants.{Padded}
 use Rattle.definition.specs.Time.{pass, emptied}
 use Rattle.definition.specs.Interrupt.{Step, ageOf, padded, back}
 use Rattle.definition.specs.Laws.{PassAdds, PaddedByStamp, PaddingSum, TwelveInside, TwelveInReturn}

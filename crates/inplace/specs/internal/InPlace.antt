@@ -7,8 +7,8 @@ use Rattle.alu.specs.Status.{gie}
 use Rattle.definition.specs.Setting.{Setting}
 use Rattle.definition.specs.declared.state.Time.{Time}
 use Rattle.definition.specs.State.{world}
-use Rattle.act.specs.declared.control.Control.{Control}
-use Rattle.act.specs.Control.{withRegisters}
+use Rattle.storage.specs.declared.control.Control.{Control}
+use Rattle.storage.specs.Control.{withRegisters}
 use Rattle.clock.specs.NoEvent.{NoEventUntil}
 use Rattle.fast.specs.declared.steps.FastProgress.{FastProgress}
 use Rattle.fast.specs.Steps.{RanSteps, savedAfter}

@@ -4,7 +4,7 @@ use mathlib.Core.Bool.{not}
 use mathlib.Core.List.{List}
 use lib.Dec.{eqb}
 use lib.ListN.{getD}
-use Rattle.act.specs.declared.control.Control.{Control}
+use Rattle.storage.specs.declared.control.Control.{Control}
 use Rattle.lentstate.specs.State.{timeOf, contextOf}
 
 -- what the machine has beside its registers, of the five numbers and the time's three

@@ -6,7 +6,7 @@ use Rattle.base.specs.Test.{if_then_else_}
 use Rattle.base.specs.Limits.{lastClock}
 use Rattle.definition.specs.State.{World}
 use Rattle.steplines.specs.Page.{Page, endPage}
-use Rattle.definition.specs.declared.answer.End.the-variants.{Halted, Clock, Spent}
+use Rattle.answers.specs.declared.answer.End.the-variants.{Halted, Clock, Spent}
 use Rattle.steplines.specs.declared.steps.Course.{Course}
 use Rattle.steplines.specs.declared.steps.Course.the-variants.{Goes, Stops}
 

@@ -6,8 +6,8 @@ use lib.ListN.{length}
 use lib.Seq.{sets}
 use Rattle.definition.specs.State.{World}
 use Rattle.steplines.specs.declared.remaining.Remaining.{Remaining}
-use Rattle.definition.specs.declared.answer.End.{End}
-use Rattle.act.specs.declared.control.Control.{Control}
+use Rattle.answers.specs.declared.answer.End.{End}
+use Rattle.storage.specs.declared.control.Control.{Control}
 use Rattle.transcript.specs.Transcript.{endLine}
 use Rattle.steplines.specs.declared.remaining.Remaining.the-variants.{Steps, Nothing}
 use Rattle.steplines.specs.declared.steps.Course.{Course}

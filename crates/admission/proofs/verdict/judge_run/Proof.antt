@@ -13,8 +13,8 @@ accepted-requires c κs = search needs
 is-timetable-requires : tie.Need-is-timetable-requires
 is-timetable-requires c κs = search needs
 
-state-is-framed-requires : tie.Need-state-is-framed-requires
-state-is-framed-requires c κs = search needs
+is-framed-requires : tie.Need-is-framed-requires
+is-framed-requires c κs = search needs
 
 budget-allowed-requires : tie.Need-budget-allowed-requires
 budget-allowed-requires c κs = search needs
@@ -30,7 +30,7 @@ returns c =
     rw (
       sym (c .before .clock-allowed .ensures),
       sym (c .before .before .budget-allowed .ensures),
-      sym (c .before .before .before .state-is-framed .ensures (now (c .before .before .before .before .before .before .before .before .before .args .stamps))),
+      sym (c .before .before .before .is-framed .ensures (now (c .before .before .before .before .before .before .before .before .before .args .stamps))),
       sym (c .before .before .before .before .is-timetable .ensures),
       sym (c .before .before .before .before .before .accepted .ensures),
       sym (c .before .before .before .before .before .before .memory-is-whole .ensures),
@@ -43,7 +43,7 @@ judge-run-spec =
     memory-is-whole-requires
     accepted-requires
     is-timetable-requires
-    state-is-framed-requires
+    is-framed-requires
     budget-allowed-requires
     clock-allowed-requires
     first-refusal-requires

@@ -1,7 +1,7 @@
 use mathlib.Core.Path.{ap}
 use borrow.Author.Needs.{needs}
-use Rattle.act.specs.declared.control.Control.{Control}
-use Rattle.act.specs.Control.{withRegisters}
+use Rattle.storage.specs.declared.control.Control.{Control}
+use Rattle.storage.specs.Control.{withRegisters}
 use Rattle.inplace.proofs.in_place.put_back.Statement.{statement}
 use Rattle.inplace.proofs.in_place.put_back.Tie as tie
 

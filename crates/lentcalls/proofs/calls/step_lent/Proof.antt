@@ -1,7 +1,9 @@
+use mathlib.Core.Path.{sym, _∙_, ap}
 use denote.Ref.{now}
+use Rattle.definition.specs.Answers.{stepRefusal, stepKind, stepCause}
 use Rattle.lentstate.specs.State.{numbers}
 use Rattle.lentstate.proofs.LentLaws.{lent-machine, lent-numbers}
-use Rattle.lentcalls.proofs.CallLaws.{lent-untouched, step-refused, step-taken}
+use Rattle.lentcalls.proofs.CallLaws.{lent-untouched, step-by, call-refused, call-taken}
 use borrow.Author.Needs.{needs}
 use Rattle.lentcalls.proofs.calls.step_lent.Statement.{statement}
 use Rattle.lentcalls.proofs.calls.step_lent.Tie as tie
@@ -40,10 +42,11 @@ returns : tie.Need-returns
 returns c =
     let a = c .before .before .before .before .before .before .before .before .before .before .before .before .before .before .before .before .before .before .args in
     let s = c .before .before .before .before .before .before .before .step-in-place .ensures in
-    step-refused (numbers (now (a .registers)) (now (a .saved)) (now (a .control)) (now (a .time))) _ _ _ _ (c .before .before .before .before .before .before .before .before .layout-of .ensures) _
-    (lent-machine (now (a .registers)) (now (a .saved)) (now (a .control)) (now (a .time)) _ (c .before .before .before .before .before .before .before .before .before .before .before .before .before .control-of .ensures)) _ _ _ s
-    (c .before .before .answer .given .0 .0) (c .before .before .answer .given .1) _ (c .number .ensures) _
-    (lent-untouched _ _ _ _ _ _ _ _ _ _ _ _ (c .before .before .answer .given .1) (s .refused)) _ _
+    let by = lent-machine (now (a .registers)) (now (a .saved)) (now (a .control)) (now (a .time)) _ (c .before .before .before .before .before .before .before .before .before .before .before .before .before .control-of .ensures) in
+    let r = c .before .before .answer .given .0 .0 in
+    let h = ap stepRefusal (c .before .before .answer .given .1) in
+    call-refused stepRefusal stepKind stepCause (numbers (now (a .registers)) (now (a .saved)) (now (a .control)) (now (a .time))) _ _ _ _
+    (s .result ∙ step-by _ _ _ _ _ (c .before .before .before .before .before .before .before .before .layout-of .ensures) _ by) r h _ (c .number .ensures) _ (lent-untouched _ _ _ _ _ _ _ _ _ _ _ r h (s .refused)) _ _
 
 same-length-2 : tie.Need-same-length-2
 same-length-2 c = search needs
@@ -52,11 +55,12 @@ returns-2 : tie.Need-returns-2
 returns-2 c =
     let a = c .before .before .before .before .before .before .before .before .before .before .before .before .before .before .before .before .before .before .before .before .before .before .args in
     let s = c .before .before .before .before .before .before .before .before .before .before .before .step-in-place .ensures in
-    let h = c .before .before .hand-control .ensures in
-    step-taken (numbers (now (a .registers)) (now (a .saved)) (now (a .control)) (now (a .time))) _ _ _ _ (c .before .before .before .before .before .before .before .before .before .before .before .before .layout-of .ensures) _
-    (lent-machine (now (a .registers)) (now (a .saved)) (now (a .control)) (now (a .time)) _ (c .before .before .before .before .before .before .before .before .before .before .before .before .before .before .before .before .before .control-of .ensures)) _ _ _ s
-    (c .before .before .before .before .before .before .answer2 .given .0 .0) (c .before .before .before .before .before .before .answer2 .given .1) _ (lent-numbers _ _ _ _ _ (h .0) (h .1)) _ _ _ _
-    (c .before .letter .ensures) (c .cause-of .ensures)
+    let by = lent-machine (now (a .registers)) (now (a .saved)) (now (a .control)) (now (a .time)) _ (c .before .before .before .before .before .before .before .before .before .before .before .before .before .before .before .before .before .control-of .ensures) in
+    let h = c .before .before .before .before .before .before .answer2 .given .1 in
+    let k = c .before .before .hand-control .ensures in
+    call-taken stepRefusal stepKind stepCause (numbers (now (a .registers)) (now (a .saved)) (now (a .control)) (now (a .time))) _ _ _ _
+    (s .result ∙ step-by _ _ _ _ _ (c .before .before .before .before .before .before .before .before .before .before .before .before .layout-of .ensures) _ by) (ap stepRefusal (sym h)) _ (lent-numbers _ _ _ _ _ (k .0) (k .1)) _ _ _ _
+    (c .before .letter .ensures ∙ ap stepKind (sym h)) (c .cause-of .ensures ∙ ap stepCause (sym h))
 
 pub step-lent-spec : {M : Type 1} → statement M
 step-lent-spec =

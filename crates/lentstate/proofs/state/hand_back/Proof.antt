@@ -1,6 +1,6 @@
 use mathlib.Core.Path.{_∙_, ap}
-use Rattle.act.specs.declared.control.Control.{Control}
-use Rattle.act.specs.Control.{withRegisters}
+use Rattle.storage.specs.declared.control.Control.{Control}
+use Rattle.storage.specs.Control.{withRegisters}
 use Rattle.lentstate.specs.State.{numbersOf}
 use Rattle.lentstate.proofs.LentLaws.{lent-numbers}
 use borrow.Author.Needs.{needs}

@@ -1,7 +1,7 @@
 use denote.Ref.{now}
 use Rattle.definition.specs.Setting.{settingOf}
 use Rattle.definition.specs.State.{world}
-use Rattle.act.specs.Control.{withRegisters}
+use Rattle.storage.specs.Control.{withRegisters}
 use Rattle.machine.proofs.AnswerLaws.{step-refused, step-taken}
 use borrow.Author.Needs.{needs}
 use Rattle.machine.proofs.calls.step_in_place.Statement.{statement}

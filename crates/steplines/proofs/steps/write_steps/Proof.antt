@@ -7,7 +7,7 @@ use lib.ListN.{length}
 use Rattle.definition.specs.Setting.{settingOf}
 use Rattle.definition.specs.Registers.{register}
 use Rattle.definition.specs.State.{world}
-use Rattle.act.specs.Control.{withRegisters}
+use Rattle.storage.specs.Control.{withRegisters}
 use Rattle.steplines.specs.internal.Course.{goesOn}
 use Rattle.steplines.proofs.CourseLaws.{course-told}
 use Rattle.steplines.proofs.PageLaws.{PageKeeps, page-first, page-length, page-next, page-passed, page-ends, page-ends-none}

@@ -3,7 +3,7 @@ use native.Mathlib.Omega.{arith}
 use native.Mathlib.Nat.{zero-add}
 use denote.Ref.{now}
 use Rattle.text.specs.Text.{tab, newline}
-use Rattle.definition.specs.Outcome.{endLetter}
+use Rattle.answers.specs.Outcome.{endLetter}
 use Rattle.transcript.specs.Transcript.{endLine}
 use Rattle.transcript.proofs.TranscriptLaws.{byte-put, decimal-put, put-then}
 use borrow.Author.Needs.{needs}

@@ -3,7 +3,7 @@ use native.Mathlib.Omega.{arith}
 use native.Mathlib.Nat.{zero-add}
 use denote.Ref.{now}
 use Rattle.text.specs.Text.{tab, newline}
-use Rattle.definition.specs.Outcome.{kindLetter}
+use Rattle.answers.specs.Outcome.{kindLetter}
 use Rattle.transcript.specs.Transcript.{stepLine}
 use Rattle.transcript.proofs.TranscriptLaws.{byte-put, decimal-put, hex-field-put, put-then}
 use borrow.Author.Needs.{needs}

@@ -1,51 +1,24 @@
-use denote.Ref.{now}
-use Rattle.definition.specs.Setting.{settingOf}
-use Rattle.definition.specs.State.{world}
-use Rattle.machine.proofs.AnswerLaws.{run-refused, run-taken}
+use Rattle.machine.proofs.AnswerLaws.{run-with-registers}
 use borrow.Author.Needs.{needs}
 use Rattle.machine.proofs.calls.Machine.run.Statement.{statement}
 use Rattle.machine.proofs.calls.Machine.run.Tie as tie
 
-judge-run-requires : tie.Need-judge-run-requires
-judge-run-requires c κs = search needs
+of-requires : tie.Need-of-requires
+of-requires c κs = search needs
 
-enum-known-refusal : tie.Need-enum-known-refusal
-enum-known-refusal c = search needs
+run-in-place-requires : tie.Need-run-in-place-requires
+run-in-place-requires c κs = search needs
 
-enum-told : tie.Need-enum-told
-enum-told c = search needs
-
-run-steps-requires : tie.Need-run-steps-requires
-run-steps-requires c κs = search needs
+state-requires : tie.Need-state-requires
+state-requires c κs = search needs
 
 same-length : tie.Need-same-length
 same-length c = search needs
 
 returns : tie.Need-returns
 returns c =
-    let a = c .before .before .before .before .before .before .before .before .args in
-    let v = c .before .before .before .judge-run in
-    run-refused (settingOf (a .layout) (now (a .stamps))) (world (a .self .0) (now (a .mem))) (v .result) (a .budget) (v .ensures) _ (c .before .refusal .given .1)
-
-same-length-2 : tie.Need-same-length-2
-same-length-2 c = search needs
-
-returns-2 : tie.Need-returns-2
-returns-2 c =
-    let a = c .before .before .before .before .before .before .before .before .before .before .before .args in
-    let v = c .before .before .before .before .before .before .judge-run in
-    run-taken (settingOf (a .layout) (now (a .stamps))) (world (a .self .0) (now (a .mem))) (v .result) (a .budget) (v .ensures) (c .before .before .before .before .enum-told .given .1)
-    _ _ _ (c .before .before .run-steps .ensures)
+    run-with-registers _ _ _ _ _ _ _ _ _ (c .before .before .before .before .before .before .before .before .of .ensures) (c .state2 .ensures) _ _ (c .before .before .before .before .run-in-place .ensures)
 
 pub run-spec : {M : Type 1} → statement M
 run-spec =
-    tie.close
-    (tie.spec
-    judge-run-requires
-    enum-known-refusal
-    enum-told
-    run-steps-requires
-    same-length
-    returns
-    same-length-2
-    returns-2)
+    tie.close (tie.spec of-requires run-in-place-requires state-requires same-length returns)
