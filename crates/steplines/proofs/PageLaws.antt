@@ -33,7 +33,7 @@ use Rattle.steplines.specs.declared.steps.Course.{Course}
 use Rattle.steplines.specs.declared.steps.Course.the-variants.{Goes, Stops}
 use Rattle.steplines.specs.Page.{lineRoom, lineOf, Page, emptyPage, behind, endPage, endOr, pageFrom}
 use Rattle.steplines.specs.internal.Course.{course, byCourse, goesOn}
-use Rattle.steplines.specs.internal.Written.{PageWritten, LastLine, lastText, lastRemaining, noRoom}
+use Rattle.steplines.specs.internal.Written.{PageWritten, LastLine, lastText, lastRemaining, noLine}
 
 module _ (S : Setting) where
   -- the lines that follow where the run goes on
@@ -209,7 +209,7 @@ module _ (S : Setting) (start made budget : ℕ) (from : World) (entry : List �
 
 -- what the end's line leaves, by whether there is one
 module _ (going : Course) (c : Control) (steps : ℕ) (entry exit : List ℕ) (filled : ℕ) where
-  pub last-none : going ≡ Goes → filled ≤ length entry → LastLine going c steps entry entry filled (record { control = c; steps = steps; filled = filled; remaining = Steps })
+  pub last-none : going ≡ Goes → filled ≤ length entry → LastLine going c steps entry entry filled (noLine c steps filled)
   last-none e i = rw e (record { bytes = refl; ends = omega arith; fits = i; control = refl; count = refl; rest = refl })
 
   pub last-end : (end : End) → going ≡ Stops end → (next : ℕ)
@@ -240,7 +240,7 @@ module _ (S : Setting) (start made budget : ℕ) (from : World) (entry out rs sa
       }
 
   -- without room for one more
-  pub page-ends-none : length out - filled < lineRoom → (r : StepsWritten) → r ≡ noRoom c steps filled
+  pub page-ends-none : length out - filled < lineRoom → (r : StepsWritten) → r ≡ noLine c steps filled
       → PageWritten (whole S start made budget from entry) entry out start (r .filled) (r .steps)
       (world (withRegisters rs saved (r .control)) mem) (r .remaining)
   page-ends-none i r e =

@@ -13,7 +13,7 @@ ghost use Rattle.storage.specs.Control.{withRegisters};
 ghost use Rattle.transcript.specs.Transcript.{stepLine, endLine};
 ghost use Rattle.steplines.specs.Page.{lineRoom, pageFrom};
 ghost use Rattle.steplines.specs.internal.Course.{course};
-ghost use Rattle.steplines.specs.internal.Written.{PageWritten, LastLine, noRoom};
+ghost use Rattle.steplines.specs.internal.Written.{PageWritten, LastLine, noLine};
 ghost use Rattle.base.specs.Limits.{lastClock};
 ghost use Rattle.clock.specs.Upcoming.{IsUpcoming};
 use crate::remaining::Remaining;
@@ -95,6 +95,18 @@ fn put_end(out: &mut [u8], filled: usize, end: End, steps: u64, clock: u64) -> u
     filled + k
 }
 
+// No line is written, and steps remain.
+fn no_line(control: Control, steps: u64, filled: usize) -> StepsWritten
+    ensures { λ r. ⌜ r ≡ noLine control steps filled ⌝ }
+{
+    StepsWritten {
+        control: control,
+        steps: steps,
+        filled: filled,
+        remaining: Remaining::Steps,
+    }
+}
+
 // The end's line, where a run stops.
 fn last_line(
     control: Control,
@@ -107,30 +119,13 @@ fn last_line(
     ensures { λ r. ⌜ LastLine going control steps (now (out .entry)) (now (out .exit)) filled r ⌝ }
 {
     match going {
-        Course::Goes => StepsWritten {
-            control: control,
-            steps: steps,
-            filled: filled,
-            remaining: Remaining::Steps,
-        },
+        Course::Goes => no_line(control, steps, filled),
         Course::Stops(end) => StepsWritten {
             control: control,
             steps: steps,
             filled: put_end(out, filled, end, steps, control.time.clock),
             remaining: Remaining::Nothing,
         },
-    }
-}
-
-// Where there is no room for a line, steps remain.
-fn no_room(control: Control, steps: u64, filled: usize) -> StepsWritten
-    ensures { λ r. ⌜ r ≡ noRoom control steps filled ⌝ }
-{
-    StepsWritten {
-        control: control,
-        steps: steps,
-        filled: filled,
-        remaining: Remaining::Steps,
     }
 }
 
@@ -193,7 +188,7 @@ pub fn write_steps(
     ensures { λ r. ⌜ (timetable (now (stamps .entry)) ≡ true → start ≤ length (now (out .entry)) → PageWritten (pageFrom (settingOf layout (now (stamps .entry))) (length (now (out .entry)) - start) made (budget - made) (world (withRegisters (now (registers .entry)) (now (saved .entry)) control) (now (mem .entry)))) (now (out .entry)) (now (out .exit)) start (r .filled) (r .steps) (world (withRegisters (now (registers .exit)) (now (saved .exit)) (r .control)) (now (mem .exit))) (r .remaining)) ⌝ }
 {
     if start > out.len() {
-        return no_room(control, made, start);
+        return no_line(control, made, start);
     }
     let mut current = control;
     let mut upcoming = find_upcoming(stamps, control.time.clock);
@@ -221,5 +216,5 @@ pub fn write_steps(
         filled = further;
         upcoming = skip_passed(stamps, upcoming, current.time.clock);
     }
-    no_room(current, steps, filled)
+    no_line(current, steps, filled)
 }

@@ -43,6 +43,6 @@ pub record LastLine (going : Course) (c : Control) (steps : ℕ) (entry exit : L
   pub count : r .steps ≡ steps
   pub rest : r .remaining ≡ lastRemaining going
 
--- what is left where there is no room for a line
-abbrev pub noRoom : Control → ℕ → ℕ → StepsWritten
-noRoom c steps filled = record { control = c; steps = steps; filled = filled; remaining = Steps }
+-- what is left where no line is written
+abbrev pub noLine : Control → ℕ → ℕ → StepsWritten
+noLine c steps filled = record { control = c; steps = steps; filled = filled; remaining = Steps }

@@ -8,6 +8,9 @@ use Rattle.steplines.proofs.steps.last_line.Tie as tie
 enum-told : tie.Need-enum-told
 enum-told c = search needs
 
+no-line-requires : tie.Need-no-line-requires
+no-line-requires c κs = search needs
+
 enum-known-going : tie.Need-enum-known-going
 enum-known-going c = search needs
 
@@ -15,7 +18,8 @@ put-end-requires : tie.Need-put-end-requires
 put-end-requires c κs = search needs
 
 returns : tie.Need-returns
-returns c = last-none _ _ _ _ [] _ (c .enum-told .given .1) (let room = c .before .before .before .pre in omega arith)
+returns c =
+    rw (c .no-line .ensures) (last-none _ _ _ _ [] _ (c .before .enum-told .given .1) (let room = c .before .before .before .before .pre in omega arith))
 
 same-length : tie.Need-same-length
 same-length c = search needs
@@ -25,4 +29,4 @@ returns-2 c = last-end _ _ _ _ _ _ _ (c .before .before .before .before .before 
 
 pub last-line-spec : {M : Type 1} → statement M
 last-line-spec =
-    tie.close (tie.spec enum-told enum-known-going put-end-requires returns same-length returns-2)
+    tie.close (tie.spec enum-told no-line-requires enum-known-going put-end-requires returns same-length returns-2)

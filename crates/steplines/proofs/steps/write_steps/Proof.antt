@@ -23,8 +23,8 @@ abbrev μ-loop : tie.MeasureT-loop
 μ-loop registers₀ saved₀ mem₀ layout stamps made budget out₀ start current₀ upcoming₀ steps₀ filled₀ registers saved mem out current upcoming steps filled =
     budget - steps
 
-no-room-requires : tie.Need-no-room-requires Inv-loop μ-loop
-no-room-requires c κs = search needs
+no-line-requires : tie.Need-no-line-requires Inv-loop μ-loop
+no-line-requires c κs = search needs
 
 returns : tie.Need-returns Inv-loop μ-loop
 returns c timed here =
@@ -111,8 +111,8 @@ loop-again c =
     (c .before .before .before .before .before .before .before .before .before .mem .given) _ _ (p .1 .0)
     (record { ends = p .0; lies = p .1 .1 }) _ (λ timed. c .skip-passed .ensures timed (page-passed _ _ _ _ _ _ _ _ _ _ _ (l .inv) timed (told .0) _ _ _ (c .before .before .before .before .before .before .before .before .before .before .line-step .ensures timed (told .1 .0) (l .inv .timed timed .upcomingHere))))
 
-no-room-requires-2 : tie.Need-no-room-requires-2 Inv-loop μ-loop
-no-room-requires-2 c κs = search needs
+no-line-requires-2 : tie.Need-no-line-requires-2 Inv-loop μ-loop
+no-line-requires-2 c κs = search needs
 
 same-length-3 : tie.Need-same-length-3 Inv-loop μ-loop
 same-length-3 c = c .before .before .loop .inv .size
@@ -123,7 +123,7 @@ same-length-4 c = page-length _ _ _ _ _ _ _ _ _ _ _ (c .before .before .loop .in
 returns-3 : tie.Need-returns-3 Inv-loop μ-loop
 returns-3 c timed here =
     let l = c .before .before .loop in
-    page-ends-none _ _ _ _ _ _ _ (l .registers) (l .saved) (l .mem) (l .current) _ _ _ (l .inv) timed (c .before .loop-test .left) _ (c .no-room2 .ensures)
+    page-ends-none _ _ _ _ _ _ _ (l .registers) (l .saved) (l .mem) (l .current) _ _ _ (l .inv) timed (c .before .loop-test .left) _ (c .no-line2 .ensures)
 
 pub write-steps-spec : {M : Type 1} → statement M
 write-steps-spec =
@@ -131,7 +131,7 @@ write-steps-spec =
     (tie.spec
     Inv-loop
     μ-loop
-    no-room-requires
+    no-line-requires
     returns
     find-upcoming-requires
     loop-holds
@@ -151,7 +151,7 @@ write-steps-spec =
     skip-passed-requires
     loop-less
     loop-again
-    no-room-requires-2
+    no-line-requires-2
     same-length-3
     same-length-4
     returns-3)
