@@ -1,2 +1,4 @@
 // What an instruction does to registers and memory.
+#![tactic(auto)]
+
 pub mod instruction;

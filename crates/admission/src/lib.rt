@@ -1,3 +1,5 @@
 // Whether a call is taken: the frame, and the refusals in number order.
+#![tactic(auto)]
+
 pub mod frame;
 pub mod verdict;

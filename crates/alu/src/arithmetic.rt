@@ -6,7 +6,7 @@ use base::word::{difference, sum};
 use rows::row::Operation;
 
 // A 16-bit result, and the carry and the overflow that go with it to the flags.
-#[derive(Drop)]
+#[derive(Clone, Copy)]
 pub struct Computed {
     pub result: u16,
     pub carry: bool,

@@ -5,7 +5,7 @@ ghost use Rattle.answers.specs.Outcome.{cause_number, kind_letter, end_letter};
 use base::refusal::Refusal;
 
 // Why a step resets the machine: the eight causes in their order.
-#[derive(Drop)]
+#[derive(Clone, Copy)]
 pub enum Cause {
     Execute,
     Reentry,
@@ -18,7 +18,7 @@ pub enum Cause {
 }
 
 // What a step did.
-#[derive(Drop)]
+#[derive(Clone, Copy)]
 pub enum Outcome {
     Ran,
     Plain,
@@ -30,7 +30,7 @@ pub enum Outcome {
 }
 
 // Why a run stopped.
-#[derive(Drop)]
+#[derive(Clone, Copy)]
 pub enum End {
     Halted,
     Clock,
@@ -38,21 +38,21 @@ pub enum End {
 }
 
 // What start answers.
-#[derive(Drop)]
+#[derive(Clone, Copy)]
 pub enum StartAnswer {
     Done,
     Refused(Refusal),
 }
 
 // What step answers: what the step did, or the refusal.
-#[derive(Drop)]
+#[derive(Clone, Copy)]
 pub enum StepAnswer {
     Done(Outcome),
     Refused(Refusal),
 }
 
 // What run answers: why it stopped and how many steps it made, or the refusal.
-#[derive(Drop)]
+#[derive(Clone, Copy)]
 pub enum RunAnswer {
     Done(End, u64),
     Refused(Refusal),

@@ -55,11 +55,11 @@ choose_both R true p q = p refl
 choose_both R false p q = q refl
 
 -- what a test `!f()` of the code says of the test that `f` answers
-pub fails : {r t : Bool} → r ≡ t → not r ≡ true → t ≡ false
-fails {r} e h = sym e ∙ not-true r h
+pub fails : {r t : Bool} → r ≡ t → r ≡ false → t ≡ false
+fails e h = sym e ∙ h
 
-pub holds : {r t : Bool} → r ≡ t → not r ≡ false → t ≡ true
-holds {r} e h = sym e ∙ not-false r h
+pub holds : {r t : Bool} → r ≡ t → r ≡ true → t ≡ true
+holds e h = sym e ∙ h
 
 -- what `f() && ..` of the code gives for `all`: where `f` fails, where it holds, and at the last test
 pub and_stop : {r t : Bool} (ts : List Bool) → r ≡ t → r ≡ false → r ≡ all (t ∷ ts)

@@ -3,7 +3,7 @@ ghost use Rattle.std.specs.Prelude.{◌≡◌};
 ghost use Rattle.base.specs.Refusal.{refusal_number};
 
 // What a call can be refused for, by document 01's word for it.
-#[derive(Drop)]
+#[derive(Clone, Copy)]
 pub enum Refusal {
     Map,
     Fence,

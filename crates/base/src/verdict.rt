@@ -2,7 +2,7 @@
 use crate::refusal::Refusal;
 
 // A call is taken, or this refuses it.
-#[derive(Drop)]
+#[derive(Clone, Copy)]
 pub enum Verdict {
     Taken,
     Refused(Refusal),

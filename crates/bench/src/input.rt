@@ -2,7 +2,7 @@
 use libc::STDIN_FILENO;
 
 // How many bytes were read, or that reading failed.
-#[derive(Drop)]
+#[derive(Clone, Copy)]
 pub enum Input {
     Bytes(usize),
     Failed,

@@ -1,4 +1,6 @@
 // The bench program: a sheet from standard input, its transcript to standard output. It only reads, calls and writes.
+#![tactic(auto)]
+
 mod input;
 mod pages;
 mod writer;

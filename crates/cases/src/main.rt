@@ -23,6 +23,8 @@
 //
 // A printed line has the letter, the answer (E and a number for a refusal), the state, and two sums of all 65,538 bytes. What
 // cannot be read is answered by a question mark, and the script has nothing such.
+#![tactic(auto)]
+
 mod call;
 mod play;
 mod show;

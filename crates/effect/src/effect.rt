@@ -21,7 +21,7 @@ use rows::row::Operation;
 use storage::memory::word_at;
 
 // What a fast step sets, in this order: pc, one more register by its number, the status; whether it puts its source; its cycles.
-#[derive(Drop)]
+#[derive(Clone, Copy)]
 pub struct Effect {
     pub to: u16,
     pub number: u8,
@@ -32,7 +32,7 @@ pub struct Effect {
 }
 
 // An instruction that is left to the step, or what it does.
-#[derive(Drop)]
+#[derive(Clone, Copy)]
 pub enum Speed {
     Slow,
     Fast(Effect),

@@ -1,3 +1,5 @@
 // What a common instruction does of which no interrupt can come, by the digits of its first word.
+#![tactic(auto)]
+
 pub mod effect;
 pub mod laws;

@@ -1,4 +1,6 @@
 // The machine for programs in other languages: exported functions over lent numbers and bytes.
+#![tactic(auto)]
+
 pub mod access;
 pub mod calls;
 pub mod fault;

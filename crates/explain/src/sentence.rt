@@ -22,7 +22,7 @@ fn put_line(out: &mut [u8], line: u64) -> usize
 }
 
 // A refusal's number and word, and the newline: the first bytes of the text.
-#[derive(Drop)]
+#[derive(Clone, Copy)]
 pub struct Label {
     pub text: [u8; 16],
     pub length: usize,

@@ -19,7 +19,7 @@ const MOST_FAST_CYCLES: u64 = 5;
 const CLOCK_ROOM: u64 = 0x8000_0000_0000_0000;
 
 // How far fast steps went: the previous address and the clock after them, and how many they were.
-#[derive(Drop)]
+#[derive(Clone, Copy)]
 pub struct FastProgress {
     pub previous: u16,
     pub clock: u64,

@@ -23,7 +23,7 @@ use storage::control::Control;
 use storage::registers::zero_registers;
 
 // What a step makes beside the registers, which it changes where they lie.
-#[derive(Drop)]
+#[derive(Clone, Copy)]
 pub struct InPlaceStep {
     pub control: Control,
     pub outcome: Outcome,

@@ -1,2 +1,4 @@
 // Reset, the three ways that a service starts, and the return from a held visit.
+#![tactic(auto)]
+
 pub mod service;

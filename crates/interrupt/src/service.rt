@@ -20,7 +20,7 @@ use storage::memory::{put_word, word_at};
 use storage::registers::{cleared_registers, read_register, set_register, zero_registers};
 
 // What a step makes: the state after it and its outcome. Memory is written where it lies.
-#[derive(Drop)]
+#[derive(Clone, Copy)]
 pub struct StepResult {
     pub state: State,
     pub outcome: Outcome,

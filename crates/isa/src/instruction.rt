@@ -2,7 +2,7 @@
 use rows::row::Operation;
 
 // What MOV moves: a register, the word that a register points at, a constant.
-#[derive(Drop)]
+#[derive(Clone, Copy)]
 pub enum Operand {
     Register(u8),
     Pointed(u8),
@@ -10,7 +10,7 @@ pub enum Operand {
 }
 
 // An instruction with its source and then its destination.
-#[derive(Drop)]
+#[derive(Clone, Copy)]
 pub enum Instruction {
     Hlt,
     In(u8),

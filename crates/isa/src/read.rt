@@ -10,7 +10,7 @@ use base::refusal::Refusal;
 use rows::read::Begun;
 
 // The answer of reading: the instruction and its length in words, or the refusal.
-#[derive(Drop)]
+#[derive(Clone, Copy)]
 pub enum Reading {
     Decoded(Instruction, u8),
     Refused(Refusal),

@@ -1,2 +1,4 @@
 // The eight causes of a reset.
+#![tactic(auto)]
+
 pub mod causes;

@@ -8,7 +8,7 @@ use crate::sections::{Layout, Section};
 use base::refusal::Refusal;
 
 // What an instruction may want to do to a byte.
-#[derive(Drop)]
+#[derive(Clone, Copy)]
 pub enum Right {
     Execute,
     Read,
@@ -16,7 +16,7 @@ pub enum Right {
 }
 
 // The columns of the table.
-#[derive(Drop)]
+#[derive(Clone, Copy)]
 pub enum Column {
     Entry,
     OtherCode,
@@ -25,7 +25,7 @@ pub enum Column {
 }
 
 // What a cell of the table allows: none, execute, read and write, all three.
-#[derive(Drop)]
+#[derive(Clone, Copy)]
 pub enum Rights {
     Nothing,
     ExecuteOnly,
@@ -34,7 +34,7 @@ pub enum Rights {
 }
 
 // The answer to a caller's question.
-#[derive(Drop)]
+#[derive(Clone, Copy)]
 pub enum Access {
     Allowed,
     Barred,

@@ -1,4 +1,6 @@
 // The layout: its sections, its rules and the access table.
+#![tactic(auto)]
+
 pub mod access;
 pub mod laws;
 pub mod rules;

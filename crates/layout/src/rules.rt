@@ -6,7 +6,7 @@ use crate::sections::{Layout, Span};
 use base::word;
 
 // What each rule forbids: an odd address, a start not below its end, sections that overlap, a service address in one.
-#[derive(Drop)]
+#[derive(Clone, Copy)]
 pub enum Rule {
     Odd,
     Empty,
@@ -15,7 +15,7 @@ pub enum Rule {
 }
 
 // The first rule that a layout breaks, if any.
-#[derive(Drop)]
+#[derive(Clone, Copy)]
 pub enum Fault {
     Unbroken,
     Broken(Rule),

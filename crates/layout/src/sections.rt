@@ -3,14 +3,14 @@ ghost use Rattle.std.specs.Prelude.{◌≡◌};
 ghost use Rattle.layout.specs.Sections.{within, section, is_code, is_outside, same_section, inside, outside, same_side};
 
 // A section's addresses: the start is its first, the end is past its last.
-#[derive(Drop)]
+#[derive(Clone, Copy)]
 pub struct Span {
     pub start: u16,
     pub end: u16,
 }
 
 // A layout: code start and end, data start and end, service address.
-#[derive(Drop)]
+#[derive(Clone, Copy)]
 pub struct Layout {
     pub code: Span,
     pub data: Span,
@@ -18,7 +18,7 @@ pub struct Layout {
 }
 
 // What an address lies in: the code section, the data section, or neither.
-#[derive(Drop)]
+#[derive(Clone, Copy)]
 pub enum Section {
     Outside,
     Code,

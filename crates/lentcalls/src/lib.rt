@@ -1,3 +1,5 @@
 // Start, step and run on a machine as lent numbers.
+#![tactic(auto)]
+
 pub mod calls;
 pub mod laws;

@@ -1,3 +1,5 @@
 // Sheets and transcripts on a machine as lent numbers.
+#![tactic(auto)]
+
 pub mod page;
 pub mod setup;

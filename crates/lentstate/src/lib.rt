@@ -1,3 +1,5 @@
 // A machine in the numbers that a caller lends.
+#![tactic(auto)]
+
 pub mod laws;
 pub mod state;

@@ -10,7 +10,7 @@ use rows::row::{Operation, Row};
 use rows::write::Writing;
 
 // A row, or none.
-#[derive(Drop)]
+#[derive(Clone, Copy)]
 enum Numbered {
     Present(Row),
     Absent,

@@ -1,2 +1,4 @@
 // The lines of a sheet: what a line says.
+#![tactic(auto)]
+
 pub mod line;

@@ -8,7 +8,7 @@ use text::number::{Decimal, Hex, read_decimal, read_hex};
 use text::text::{head, rest};
 
 // What a line says: a layout, a word in memory, a stamp of the timetable, the budget.
-#[derive(Drop)]
+#[derive(Clone, Copy)]
 pub enum Content {
     Layout(Layout),
     Word(u16, u16),
@@ -17,14 +17,14 @@ pub enum Content {
 }
 
 // A line that can be read, or not.
-#[derive(Drop)]
+#[derive(Clone, Copy)]
 pub enum Line {
     Parsed(Content),
     Unreadable,
 }
 
 // A section's start and end, or not.
-#[derive(Drop)]
+#[derive(Clone, Copy)]
 pub enum Part {
     Parsed(Span),
     Unreadable,

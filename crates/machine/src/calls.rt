@@ -19,7 +19,7 @@ use storage::control::Control;
 use storage::registers::cleared_registers;
 
 // The machine that callers hold, a state: each call takes it by value and hands the next one back. Memory is lent beside it.
-#[derive(Drop)]
+#[derive(Clone, Copy)]
 pub struct Machine(pub State);
 
 impl Machine {

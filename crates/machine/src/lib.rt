@@ -1,3 +1,5 @@
 // What callers reach: start, step and run.
+#![tactic(auto)]
+
 pub mod answer;
 pub mod calls;

@@ -13,7 +13,7 @@ use steplines::remaining::Remaining;
 use transcribe::progress::Transcript;
 
 // An opened sheet: its layout, how many of the stamps are its own, and its transcript, of which all is still to be written.
-#[derive(Drop)]
+#[derive(Clone, Copy)]
 pub struct SheetRun {
     pub layout: Layout,
     pub count: usize,

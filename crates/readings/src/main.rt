@@ -1,6 +1,8 @@
 // Many sheets read and run. The file stdin beside src/ has a name and a sheet in turn, each ended by the byte '%', so that a sheet
 // may hold any other byte, or none. Printed for each: its name, a tab, and the last line that the bench prints for that sheet. The
 // file stdout has what the separate model printed from the same sheets.
+#![tactic(auto)]
+
 mod reading;
 
 use base::limits::{MEMORY_BYTES, MOST_STAMPS};

@@ -1,4 +1,6 @@
 // Why a sheet is refused: which text says it, and which fields of the sheet it quotes.
+#![tactic(auto)]
+
 mod fence;
 pub mod finding;
 mod line;

@@ -1,13 +1,13 @@
 // What is wrong with a sheet: the number of a text, and the fields of the sheet that it quotes.
 // A field of a line.
-#[derive(Drop)]
+#[derive(Clone, Copy)]
 pub struct Place {
     pub line: u64,
     pub field: u64,
 }
 
 // A text, and the fields for its first and its second percent sign.
-#[derive(Drop)]
+#[derive(Clone, Copy)]
 pub struct Reason {
     pub text: u64,
     pub first: Place,

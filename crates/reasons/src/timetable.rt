@@ -7,7 +7,7 @@ use text::number::{Decimal, read_decimal};
 use text::text::{head, rest};
 
 // The A lines so far, as many as a timetable takes: how many, and the number of the last one, 0 where there is none.
-#[derive(Drop)]
+#[derive(Clone, Copy)]
 struct Stamps {
     count: usize,
     line: u64,

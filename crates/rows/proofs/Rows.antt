@@ -168,6 +168,7 @@ listed NOT = search (here, there) depth 20
 -- a word's row is found, whatever the order of the rows
 found_in : (r : Row) (w : ℕ) (rs : List Row) → Among r rs → has_word r w ≡ true → begun_in rs w ≡ found r w
 unfolding begun_in if◌then◌else◌
+found_in r w [] x'' e = elim x'' [ ]
 found_in r w (q ∷ rs) here e = rw e
 found_in r w (q ∷ rs) (there l) e =
     choose (λ (b : Begun). b ≡ found r w) (has_word q w)

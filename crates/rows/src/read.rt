@@ -8,7 +8,7 @@ ghost use Rattle.rows.specs.internal.Dispatch.{own_words, register_moves, moves,
 use crate::row::{Operation, Row};
 
 // What a first word begins: the row that has it, with its source and destination registers, or nothing.
-#[derive(Drop)]
+#[derive(Clone, Copy)]
 pub enum Begun {
     Nothing,
     Found(Row, u8, u8),

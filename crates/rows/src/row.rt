@@ -3,7 +3,7 @@ ghost use Rattle.std.specs.Prelude.{◌≡◌};
 ghost use Rattle.rows.specs.Table.{has_second, second_fits, format_of};
 
 // What ADD, SUB, CMP and AND do.
-#[derive(Drop)]
+#[derive(Clone, Copy)]
 pub enum Operation {
     Add,
     Sub,
@@ -12,7 +12,7 @@ pub enum Operation {
 }
 
 // A row of the table of instruction words.
-#[derive(Drop)]
+#[derive(Clone, Copy)]
 pub enum Row {
     Hlt,
     In,
@@ -30,7 +30,7 @@ pub enum Row {
 }
 
 // What the second word of a row is: there is none, it is this one, it is any.
-#[derive(Drop)]
+#[derive(Clone, Copy)]
 pub enum Second {
     Nothing,
     Exactly(u16),
@@ -61,7 +61,7 @@ impl Second {
 }
 
 // An instruction as the table has it: its row, its register digits and its second word, each 0 where the row has none.
-#[derive(Drop)]
+#[derive(Clone, Copy)]
 pub struct Encoding {
     pub row: Row,
     pub source: u8,

@@ -8,7 +8,7 @@ use crate::row::{Encoding, Operation, Row, Second};
 use base::refusal::Refusal;
 
 // The answer of writing: exactly the instruction's words, or the refusal.
-#[derive(Drop)]
+#[derive(Clone, Copy)]
 pub enum Writing {
     One(u16),
     Two(u16, u16),

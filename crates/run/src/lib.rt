@@ -1,2 +1,4 @@
 // Many steps of a machine whose registers are lent.
+#![tactic(auto)]
+
 pub mod run;

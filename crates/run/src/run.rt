@@ -16,7 +16,7 @@ use step::step::{is_held, take_step};
 use storage::control::Control;
 
 // What a run leaves beside the registers, which it changes where they lie.
-#[derive(Drop)]
+#[derive(Clone, Copy)]
 pub struct InPlaceRun {
     pub control: Control,
     pub answer: RunAnswer,

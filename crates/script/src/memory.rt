@@ -22,7 +22,7 @@ pub fn put_words(mem: &mut [u8], fields: [u64; 8], count: usize) {
 }
 
 // Two sums: of the bytes, and of that sum as it stood after each byte.
-#[derive(Drop)]
+#[derive(Clone, Copy)]
 pub struct Totals {
     pub bytes: u64,
     pub places: u64,

@@ -2,7 +2,7 @@
 use crate::line::Line;
 
 // The fewest and the most fields; the largest first field, the largest of the others.
-#[derive(Drop)]
+#[derive(Clone, Copy)]
 struct Rule {
     least: usize,
     most: usize,

@@ -7,7 +7,7 @@ use layout::sections::{Layout, Span};
 use storage::registers::set_register;
 
 // The world of a call. The bytes and the stamps themselves stand in buffers beside it.
-#[derive(Drop)]
+#[derive(Clone, Copy)]
 pub struct World {
     pub state: State,
     pub layout: Layout,

@@ -15,7 +15,7 @@ use lines::line::{Content, Line, read_line};
 use text::text::{head, holds_byte, rest};
 
 // What a sheet sets up: the layout, how many stamps the timetable has, the budget.
-#[derive(Drop)]
+#[derive(Clone, Copy)]
 pub struct Setup {
     pub layout: Layout,
     pub stamps: u64,
@@ -23,21 +23,21 @@ pub struct Setup {
 }
 
 // The answer: the setup, or the refusal with its line.
-#[derive(Drop)]
+#[derive(Clone, Copy)]
 pub enum Answer {
     Read(Setup),
     Refused(Refusal, u64),
 }
 
 // What the first line says: a layout, or anything else.
-#[derive(Drop)]
+#[derive(Clone, Copy)]
 pub enum First {
     IsLayout(Layout),
     NoLayout,
 }
 
 // After a line: the last stamp and the number of stamps so far, or the answer.
-#[derive(Drop)]
+#[derive(Clone, Copy)]
 pub enum Stage {
     Goes(u64, u64),
     Stops(Answer),

@@ -1,2 +1,4 @@
 // One whole step of the machine.
+#![tactic(auto)]
+
 pub mod step;

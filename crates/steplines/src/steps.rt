@@ -29,14 +29,14 @@ use transcript::line::{end_line, step_line};
 pub const LINE_ROOM: usize = 64;
 
 // A run goes on, or why it stops.
-#[derive(Drop)]
+#[derive(Clone, Copy)]
 pub enum Course {
     Goes,
     Stops(End),
 }
 
 // What the lines leave: what the machine has beside its registers, the steps made so far, how far the buffer is filled, what remains.
-#[derive(Drop)]
+#[derive(Clone, Copy)]
 pub struct StepsWritten {
     pub control: Control,
     pub steps: u64,

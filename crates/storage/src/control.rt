@@ -5,7 +5,7 @@ ghost use Rattle.storage.specs.Control.{with_registers, control_of};
 use definition::state::{SavedContext, State, Time};
 
 // What a state has beside its registers and its saved registers.
-#[derive(Drop)]
+#[derive(Clone, Copy)]
 pub struct Control {
     pub previous: u16,
     pub time: Time,

@@ -1,4 +1,6 @@
 // Registers and memory, and a state whose registers are lent.
+#![tactic(auto)]
+
 pub mod control;
 pub mod memory;
 pub mod registers;

@@ -4,21 +4,21 @@ ghost use Rattle.text.specs.Number.{hex_digit, decimal_digit, hex_of, zero_led, 
 ghost use Rattle.text.specs.internal.Digit.{within};
 
 // A digit, or no digit.
-#[derive(Drop)]
+#[derive(Clone, Copy)]
 pub enum Digit {
     Parsed(u8),
     Unreadable,
 }
 
 // A hexadecimal field, or none.
-#[derive(Drop)]
+#[derive(Clone, Copy)]
 pub enum Hex {
     Parsed(u16),
     Unreadable,
 }
 
 // A decimal field, or none.
-#[derive(Drop)]
+#[derive(Clone, Copy)]
 pub enum Decimal {
     Parsed(u64),
     Unreadable,

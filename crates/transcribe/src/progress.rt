@@ -9,7 +9,7 @@ use layout::sections::Layout;
 use steplines::remaining::Remaining;
 
 // A transcript that is being written. The memory of its machine is lent beside it.
-#[derive(Drop)]
+#[derive(Clone, Copy)]
 pub struct Transcript {
     pub state: State,
     pub steps: u64,
@@ -18,7 +18,7 @@ pub struct Transcript {
 }
 
 // What a call hands back: where the transcript stands, how many bytes were written, and whether the call was taken.
-#[derive(Drop)]
+#[derive(Clone, Copy)]
 pub struct Filled {
     pub transcript: Transcript,
     pub written: usize,

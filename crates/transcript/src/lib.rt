@@ -1,2 +1,4 @@
 // The lines of a run's transcript.
+#![tactic(auto)]
+
 pub mod line;

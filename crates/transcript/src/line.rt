@@ -8,7 +8,7 @@ use answers::answer::{End, Outcome};
 use base::refusal::Refusal;
 
 // The digits of a decimal: those from the start on.
-#[derive(Drop)]
+#[derive(Clone, Copy)]
 pub struct Digits {
     pub text: [u8; 20],
     pub start: usize,

@@ -16,7 +16,7 @@ const EDGES: [u16; 26] = [
 const SECONDS: [u16; 4] = [0x0000, 0xffff, 0xfffe, 0x0001];
 
 // An instruction's kind, source, destination and constant, each 0 where it has none.
-#[derive(Drop)]
+#[derive(Clone, Copy)]
 struct Parts {
     kind: u8,
     source: u8,

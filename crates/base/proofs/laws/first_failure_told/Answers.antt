@@ -1,0 +1,8 @@
+use Rattle.base.specs.Laws.{FirstFailureTold}
+use Rattle.base.specs.declared.verdict.Verdict.TheVariants.{Taken, Refused}
+use Rattle.base.proofs.Tests.{first_fails}
+use Rattle.base.proofs.laws.first_failure_told.Goals as goal
+
+pub returns : goal.returns
+unfolding FirstFailureTold
+returns c = first_fails Taken Refused

@@ -1,0 +1,7 @@
+use mathlib.Core.Path.{refl}
+use Rattle.isa.proofs.Computes.{computes}
+use Rattle.isa.proofs.laws.starred_words.Goals as goal
+
+pub returns : goal.returns
+unfolding computes
+returns c = (refl, (refl, (refl, (refl, tt))))

@@ -1,0 +1,7 @@
+use Prim.Native.Nat.{suc, ◌-◌, ◌≤◌}
+use native.Mathlib.Omega.{arith}
+use borrow.Author.Rules.{rules}
+use Rattle.reasons.proofs.timetable.stamps_before.Goals as goal
+
+pub loop-n-init : goal.loop-n-init
+loop-n-init c = omega arith

@@ -1,0 +1,5 @@
+use borrow.Author.Rules.{rules}
+use Rattle.text.proofs.text.holds_byte.Goals as goal
+
+pub returns : goal.returns
+returns c = simp c.find.ensures.0

@@ -1,0 +1,15 @@
+use mathlib.Core.Path.{◌≡◌, refl, sym, ◌∙◌}
+use Prim.Native.Nat.{◌≤◌}
+use native.Mathlib.Omega.{arith}
+use lib.ListN.{length, drop, length-set}
+use Rattle.transcript.specs.Transcript.{decimal_from, decimal_bytes}
+use Rattle.transcript.proofs.TranscriptLaws.{turn_last, turn_more, turn_none}
+use borrow.Author.Rules.{rules}
+use Rattle.transcript.proofs.line.decimal_digits.Given as goal
+
+abbrev pub invariant-loop-i : goal.invariant-loop-i
+invariant-loop-i l =
+    (l.i ≤ 20) × ((length l.text ≡ 20) × (decimal_bytes l.n ≡ decimal_from l.i l.rest (drop l.i l.text)))
+
+abbrev pub decreases-loop-i : goal.decreases-loop-i
+decreases-loop-i l = l.i
