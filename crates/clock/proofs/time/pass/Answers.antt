@@ -1,0 +1,24 @@
+use Rattle.std.proofs.Common.{◌≡◌, ℕ, ◌+◌, ◌%◌, ◌^◌, ◌≤◌, arith, rules}
+use Rattle.definition.specs.Time.{pass, request}
+use Rattle.clock.proofs.UpcomingLaws.{upcoming_earliest}
+use Rattle.clock.proofs.time.pass.Goals as goal
+
+-- a sum that keeps below 2^64 does not wrap
+small : {n : ℕ} → n ≤ 2 ^ 63 → n % 2 ^ 64 ≡ n
+small h = omega arith
+
+pub returns : goal.returns
+unfolding pass request
+returns c = λ L room timed right.
+    let a = c.args in
+    rw (upcoming_earliest a.t.clock (a.t.clock + a.n) a.stamps.now a.upcoming timed right)
+    (simp (
+      small room,
+      c.wrapping_add_u64-b.ensures.value,
+      c.alarm_left.ensures,
+      c.filled_by.ensures,
+      c.earlier-request.ensures,
+      c.happening-2.ensures,
+      c.happening.ensures,
+      c.stamp_at-next.ensures,
+    ))

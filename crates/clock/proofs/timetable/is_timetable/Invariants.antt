@@ -1,0 +1,13 @@
+use Rattle.std.proofs.Common.{◌≡◌, ◌-◌, ◌≤◌, length, drop, sym, refl, ◌∙◌, arith, rules, le-leb}
+use lib.Seq.{drop-length}
+use borrow.Author.Tests.{lt-leb}
+use Rattle.base.proofs.Tests.{and_stop, and_then, and_last, fails, holds}
+use Rattle.definition.specs.Calls.{rising_from, timetable}
+use Rattle.definition.proofs.time.TimetableLaws.{rising_next, falling_next}
+use Rattle.clock.proofs.timetable.is_timetable.Given as goal
+
+abbrev pub invariant-loop-i : goal.invariant-loop-i
+invariant-loop-i l = (l.i ≤ length l.stamps) × (rising_from 0 l.stamps ≡ rising_from l.last (drop l.i l.stamps))
+
+abbrev pub decreases-loop-i : goal.decreases-loop-i
+decreases-loop-i l = length l.stamps - l.i

@@ -1,0 +1,11 @@
+use mathlib.Core.Path.{sym}
+use native.Mathlib.Omega.{arith}
+use lib.Seq.{set_out}
+use borrow.Author.Rules.{rules}
+use Rattle.storage.proofs.memory.put_byte.Reads as reads
+use Rattle.storage.proofs.memory.put_byte.Lts as lts
+use Rattle.storage.proofs.memory.put_byte.Goals as goal
+
+-- src/memory.rt:33:1
+pub returns-else-i-mem : goal.returns-else-i-mem
+returns-else-i-mem c = sym (set_out _ _ _ (omega arith))

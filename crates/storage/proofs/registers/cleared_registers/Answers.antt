@@ -1,0 +1,7 @@
+use Rattle.definition.specs.Registers.{cleared}
+use borrow.Author.Rules.{rules}
+use Rattle.storage.proofs.registers.cleared_registers.Goals as goal
+
+pub returns : goal.returns
+unfolding cleared
+returns c = c.set_register.ensures
