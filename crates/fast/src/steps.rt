@@ -56,10 +56,10 @@ fn fast_loop(
     until: u64,
     left: u64,
 ) -> FastProgress
-    requires mem_len { length mem.old ≡ memory_bytes }
-    requires clock_le_clock_room { (clock ≤ clock_room) × (until ≤ last_clock) }
-    ensures fast_steps { FastSteps layout held until (fast_state registers.old previous clock mem.old) result.steps (fast_state registers.new result.previous result.clock mem.new) }
-    ensures steps_le_left { result.steps ≤ left }
+    requires size { length mem.old ≡ memory_bytes }
+    requires room { (clock ≤ clock_room) × (until ≤ last_clock) }
+    ensures ran { FastSteps layout held until (fast_state registers.old previous clock mem.old) result.steps (fast_state registers.new result.previous result.clock mem.new) }
+    ensures within { result.steps ≤ left }
 {
     let mut last = previous;
     let mut time = clock;
@@ -105,8 +105,8 @@ pub fn fast_steps(
     until: u64,
     left: u64,
 ) -> FastProgress
-    ensures fast_steps { FastSteps layout held until (fast_state registers.old previous clock mem.old) result.steps (fast_state registers.new result.previous result.clock mem.new) }
-    ensures steps_le_left { result.steps ≤ left }
+    ensures ran { FastSteps layout held until (fast_state registers.old previous clock mem.old) result.steps (fast_state registers.new result.previous result.clock mem.new) }
+    ensures within { result.steps ≤ left }
 {
     if mem.len() == MEMORY_BYTES {
         if clock <= CLOCK_ROOM {

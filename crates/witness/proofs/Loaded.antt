@@ -15,7 +15,7 @@ use Rattle.layout.specs.declared.sections.Layout.{Layout}
 use Rattle.layout.specs.Sections.{outside}
 use Rattle.layout.specs.Rules.{accepted}
 use Rattle.answers.specs.declared.answer.StartAnswer.TheVariants.{Done}
-use Rattle.definition.specs.Memory.{byte_at}
+use Rattle.definition.specs.Memory.{byte_at, put_word}
 use Rattle.definition.specs.Calls.{Called, start_call}
 use Rattle.definition.proofs.instruction.MemoryLaws.{put_length, put_side}
 use Rattle.witness.specs.Lines.{MLine, loaded, memory_of}
@@ -23,7 +23,7 @@ use Rattle.witness.specs.Lines.{MLine, loaded, memory_of}
 loaded_length : (mem : List ℕ) (ls : List MLine) → length (loaded mem ls) ≡ length mem
 unfolding loaded
 loaded_length mem [] = refl
-loaded_length mem (l ∷ ls) = loaded_length _ ls ∙ put_length mem l.address l.word
+loaded_length mem (l ∷ ls) = loaded_length (put_word mem l.address l.word) ls ∙ put_length mem l.address l.word
 
 whole : (outer inner : List MLine) → length (memory_of outer inner) ≡ memory_bytes
 unfolding memory_of
@@ -48,7 +48,7 @@ module _ (L : Layout) (fit : accepted L ≡ true) where
       cases (outside L (drop_bit0 l.address))
       (λ e. absurd (false≢true (sym (if_true _ _ _ e) ∙ h)))
       (λ e.
-      unseen _ ls (sym (if_false _ _ _ e) ∙ h) a o
+      unseen (put_word mem l.address l.word) ls (sym (if_false _ _ _ e) ∙ h) a o
       ∙ put_side L fit mem l.address l.word a (λ q. true≢false (sym o ∙ q ∙ e)))
 
   -- two modules with the same words outside

@@ -1,0 +1,17 @@
+use mathlib.Core.Bool.{true}
+use mathlib.Core.Path.{sym, ◌∙◌}
+use Prim.Native.Nat.{◌-◌}
+use native.Mathlib.Omega.{arith}
+use borrow.Author.Rules.{rules}
+use Rattle.base.proofs.Tests.{holds}
+use Rattle.fast.specs.Steps.{fast_state, no_step}
+use Rattle.fast.proofs.FastSteps.{FastLoop, effect_few, fast_loop_next}
+use Rattle.fast.proofs.steps.fast_loop.Given as goal
+
+abbrev pub invariant-loop-steps : goal.invariant-loop-steps
+invariant-loop-steps l =
+    FastLoop l.layout l.held l.until l.left (fast_state l.initial.registers l.previous l.clock l.initial.mem) (fast_state l.registers l.last l.time l.mem) l.steps
+
+abbrev pub decreases-loop-steps : goal.decreases-loop-steps
+decreases-loop-steps l =
+    l.left - l.steps

@@ -1,0 +1,21 @@
+use mathlib.Core.Path.{sym}
+use Rattle.base.specs.Test.{if◌then◌else◌}
+use Rattle.definition.specs.Interrupt.{due}
+use borrow.Author.Rules.{rules}
+use Rattle.interrupt.proofs.service.due_stamp.Goals as goal
+
+pub returns-then-gie_is_set : goal.returns-then-gie_is_set
+unfolding due if◌then◌else◌
+returns-then-gie_is_set c = simp (
+  c.if-gie_is_set.true,
+  sym c.gie_is_set.ensures,
+  sym c.read_register.ensures,
+)
+
+pub returns : goal.returns
+unfolding due if◌then◌else◌
+returns c = simp (
+  c.if-gie_is_set.false,
+  sym c.gie_is_set.ensures,
+  sym c.read_register.ensures,
+)

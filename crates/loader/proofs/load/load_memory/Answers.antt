@@ -1,0 +1,10 @@
+use mathlib.Core.Path.{sym, ◌∙◌, ap}
+use lib.ListN.{length}
+use Rattle.loader.proofs.SetupLaws.{sheet_memory_length}
+use Rattle.loader.specs.Setup.{sheet_memory}
+use borrow.Author.Rules.{rules}
+use Rattle.loader.proofs.load.load_memory.Goals as goal
+
+pub returns : goal.returns
+unfolding sheet_memory
+returns c = record { mem_after = c.store_lines.ensures; memory_bytes_value = sym (ap length c.store_lines.ensures ∙ sheet_memory_length _) }

@@ -1,0 +1,7 @@
+use mathlib.Core.Path.{sym}
+use lib.Seq.{set_out}
+use borrow.Author.Rules.{rules}
+use Rattle.loader.proofs.load.put_stamp.Goals as goal
+
+pub returns-else-i-stamps : goal.returns-else-i-stamps
+returns-else-i-stamps c = sym (set_out _ _ _ c.if-i-stamps.false)

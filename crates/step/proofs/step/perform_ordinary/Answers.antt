@@ -1,0 +1,38 @@
+use mathlib.Core.Path.{refl, sym, ◌∙◌, ap}
+use native.Mathlib.Omega.{arith}
+use Rattle.layout.specs.Sections.{inside}
+use Rattle.definition.specs.Setting.{setting_of}
+use Rattle.definition.specs.declared.state.State.{State}
+use Rattle.definition.specs.Interrupt.{interrupted}
+use Rattle.definition.proofs.instruction.InstructionLaws.{cycles_range}
+use Rattle.clock.proofs.UpcomingLaws.{can_pass_later}
+use Rattle.definition.proofs.step.StepLaws.{next_clock}
+use Rattle.interrupt.proofs.Yields.{yields}
+use Rattle.step.proofs.StepYields.{ordinary_halts, ordinary_serves}
+use borrow.Author.Rules.{rules}
+use Rattle.step.proofs.step.perform_ordinary.Goals as goal
+
+pub returns-then-next : goal.returns-then-next
+returns-then-next c = λ h.
+    yields (ordinary_halts _ _ _ _ _ _ (c.execute-next.ensures (can_pass_later h _ _ (omega arith) (omega arith))) c.memory_after.ensures c.if-next.true) (refl, refl)
+
+pub returns-in-Never : goal.returns-in-Never
+unfolding interrupted
+returns-in-Never c = λ h.
+    yields
+    (ordinary_serves _ _ _ _ _ _ (c.execute-next.ensures (can_pass_later h _ _ (omega arith) (omega arith))) c.memory_after.ensures c.if-next.false _
+    (c.inside-inside.ensures ∙ ap (inside _) c.read_register.ensures) _
+    (sym c.in-Never.is ∙ c.due_stamp.ensures))
+    (refl, refl)
+
+pub returns-in-At : goal.returns-in-At
+returns-in-At c = λ h.
+    let a = c.args in
+    let k = (cycles_range a.i).1 in
+    let n = c.execute-next.ensures (can_pass_later h _ _ (omega arith) (omega arith)) in
+    let e = ap (λ (m : State). m.time.clock) n ∙ next_clock (setting_of a.layout a.stamps.now) a.m a.mem.now a.i in
+    yields
+    (ordinary_serves _ _ _ _ _ _ n c.memory_after.ensures c.if-next.false _
+    (c.inside-inside.ensures ∙ ap (inside _) c.read_register.ensures) _
+    (sym c.in-At.is ∙ c.due_stamp.ensures))
+    (c.serve.ensures (can_pass_later h _ _ (omega arith) (omega arith)))
