@@ -1,7 +1,7 @@
 /*
  * Reads a bench sheet from standard input, steps its machine and prints the transcript.
  *
- *     cc -std=c11 -I include examples/step_sheet.c target/staticlib/libembed.a -o step_sheet
+ *     cc -std=c11 -I include examples/step_sheet.c crates/embed/out/libembed.a -o step_sheet
  *     ./step_sheet < sheets/document-01.sheet
  */
 #include <inttypes.h>

@@ -1,7 +1,7 @@
 /*
  * Reads a bench sheet from standard input and prints the transcript of its run, which the library writes.
  *
- *     cc -std=c11 -I include examples/transcribe_sheet.c target/staticlib/libembed.a -o transcribe_sheet
+ *     cc -std=c11 -I include examples/transcribe_sheet.c crates/embed/out/libembed.a -o transcribe_sheet
  *     ./transcribe_sheet < sheets/document-01.sheet
  */
 #include <inttypes.h>

@@ -1,7 +1,7 @@
 /*
  * The machine for programs in C: a 16-bit controller with one enclave module whose interrupts are padded.
  *
- * Link with target/staticlib/libembed.a, which is for x86-64. It needs only memcpy and memset, from the C library. There is no global
+ * Link with crates/embed/out/libembed.a, which is for x86-64. It needs only memcpy and memset, from the C library. There is no global
  * state and no allocation: all that a function works on is lent by the caller, so the functions are thread-safe by construction. Threads
  * may call them at the same time on different machines; two calls on one machine or one memory must not run at the same time.
  *

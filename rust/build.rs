@@ -1,5 +1,5 @@
-//! Links the static library that `rt staticlib embed` writes. `ENCLAVE_LIB_DIR` names the folder that
-//! holds it by its whole path, where that is not `target/staticlib` of this repository.
+//! Links the static library that `rt lib embed` writes. `ENCLAVE_LIB_DIR` names the folder that
+//! holds it by its whole path, where that is not `crates/embed/out` of this repository.
 
 use std::env;
 use std::path::{Path, PathBuf};
@@ -19,16 +19,16 @@ fn main() {
     println!("cargo::rustc-link-lib=static=embed");
 }
 
-// Where `rt staticlib embed` writes the library.
+// Where `rt lib embed` writes the library.
 fn own_folder() -> PathBuf {
     let here = env::var_os("CARGO_MANIFEST_DIR").expect("set by cargo");
-    PathBuf::from(here).join("../target/staticlib")
+    PathBuf::from(here).join("../crates/embed/out")
 }
 
 // What is wrong where the library is missing, and what to do.
 fn complaint(library: &Path) -> String {
     format!(
-        "{} is missing: run `rt staticlib embed` at the top of the repository, or set {VARIABLE} to the folder that holds libembed.a",
+        "{} is missing: run `rt lib embed` at the top of the repository, or set {VARIABLE} to the folder that holds libembed.a",
         library.display()
     )
 }

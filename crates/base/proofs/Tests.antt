@@ -1,6 +1,5 @@
 -- Tests that are true or false, taken apart and put together. Assumes nothing.
-use Rattle.std.proofs.Common.{◌≡◌, Bool, true, false, not, List, [], ◌∷◌, ◌++◌, sym, refl, ◌∙◌, true≢false}
-use borrow.Author.Tests.{not-true, not-false}
+use Rattle.std.proofs.Common.{◌≡◌, Bool, true, false, List, [], ◌∷◌, ◌++◌, sym, refl, ◌∙◌, true≢false}
 use Rattle.base.specs.Test.{if◌then◌else◌, all, any}
 use Rattle.base.specs.FirstFailure.{Test, first_failure, holds_of}
 

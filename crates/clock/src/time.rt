@@ -53,7 +53,8 @@ fn earlier(one: Stamp, other: Stamp) -> Stamp
         Stamp::At(s) => match other {
             Stamp::Never => Stamp::At(s),
             Stamp::At(t) => {
-                if s <= t {
+                let sooner = s <= t;
+                if sooner {
                     return Stamp::At(s);
                 }
                 Stamp::At(t)

@@ -43,7 +43,7 @@ use Rattle.definition.specs.Step.{executed, judged, step}
 use Rattle.definition.specs.Run.{Stop, world_after, step_of, run, moves}
 use Rattle.definition.specs.Answers.{run_refusal, step_refusal}
 use Rattle.definition.specs.Promises.{Untouched}
-use Rattle.definition.specs.Calls.{whole_memory, timetable, start_tests, step_tests, run_tests, Called, step_call, run_call}
+use Rattle.definition.specs.Calls.{whole_memory, timetable, start_tests, step_tests, run_tests, step_call, run_call}
 
 -- ---- time
 

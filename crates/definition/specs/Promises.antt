@@ -7,11 +7,10 @@ use Rattle.answers.specs.declared.answer.StartAnswer.{StartAnswer}
 use Rattle.answers.specs.declared.answer.StepAnswer.{StepAnswer}
 use Rattle.answers.specs.declared.answer.RunAnswer.{RunAnswer}
 use Rattle.definition.specs.State.{World}
-use Rattle.definition.specs.Interrupt.{Step}
-use Rattle.definition.specs.Run.{Stop, step_of, run}
+use Rattle.definition.specs.Run.{step_of, run}
 use Rattle.answers.specs.Outcome.{kind_letter, end_letter}
 use Rattle.definition.specs.Answers.{start_refusal, step_refusal, run_refusal, cause_of, step_kind, step_cause, run_end, run_steps}
-use Rattle.definition.specs.Calls.{start_tests, step_tests, run_tests, Called, called, start_call, step_call, run_call}
+use Rattle.definition.specs.Calls.{start_tests, step_tests, run_tests, called, start_call, step_call, run_call}
 
 -- a refusal alters no byte and hands the state back as it came
 abbrev pub Untouched : ℕ → World → World → Type 0

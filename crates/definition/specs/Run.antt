@@ -1,9 +1,8 @@
 -- Many steps: a run stops at the first of halted, clock above 2^62, budget spent.
-use Rattle.std.specs.Prelude.{ℕ, zero, suc, ◌+◌, Bool, List, [], ◌∷◌, ltb}
+use Rattle.std.specs.Prelude.{ℕ, zero, suc, ◌+◌, List, [], ◌∷◌, ltb}
 use Rattle.base.specs.Test.{if◌then◌else◌}
 use Rattle.base.specs.Limits.{last_clock}
 use Rattle.definition.specs.Setting.{Setting}
-use Rattle.definition.specs.declared.state.Time.{Time}
 use Rattle.definition.specs.declared.state.State.{State}
 use Rattle.answers.specs.declared.answer.End.{End}
 use Rattle.answers.specs.declared.answer.End.TheVariants.{Halted, Clock, Spent}

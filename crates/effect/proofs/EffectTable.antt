@@ -3,7 +3,6 @@ use mathlib.Core.Path.{sym}
 use mathlib.Core.Bool.{false}
 use Rattle.isa.specs.Words.{reading}
 use Rattle.effect.specs.Laws.{EffectByTable}
-use Rattle.effect.proofs.FastRows.{Acting}
 use Rattle.effect.proofs.FastWords.{acting_behind}
 
 pub effect_by_table : EffectByTable

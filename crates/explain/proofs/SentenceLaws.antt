@@ -8,7 +8,6 @@ use lib.ListN.{length, take, drop, length-drop}
 use lib.Seq.{sets, length-take-le}
 use borrow.Author.Tests.{ne_eqb}
 use Rattle.base.specs.declared.refusal.Refusal.{Refusal}
-use Rattle.base.specs.Test.{if◌then◌else◌}
 use Rattle.base.proofs.Tests.{if_false}
 use Rattle.text.proofs.Finding.{from_here}
 use Rattle.transcript.specs.Transcript.{decimal_bytes}

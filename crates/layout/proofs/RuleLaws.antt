@@ -1,7 +1,7 @@
 -- What an accepted layout keeps. Assumes nothing.
 use Prim.Native.Nat.{◌%◌}
 use mathlib.Core.Path.{◌≡◌, refl, sym, ap}
-use mathlib.Core.Bool.{Bool, true, true≢false}
+use mathlib.Core.Bool.{true, true≢false}
 use borrow.Author.Tests.{eqb-true}
 use Rattle.base.proofs.Tests.{each, none_fails}
 use Rattle.layout.specs.declared.sections.Layout.{Layout}

@@ -13,7 +13,7 @@ use Rattle.answers.specs.declared.answer.StartAnswer.{StartAnswer}
 use Rattle.answers.specs.declared.answer.StartAnswer.TheVariants.{Done as HasStarted, Refused as NotStarted}
 use Rattle.definition.specs.State.{world}
 use Rattle.definition.specs.Answers.{start_refusal}
-use Rattle.definition.specs.Calls.{Called, called, start_call, step_call, run_call}
+use Rattle.definition.specs.Calls.{Called, called, step_call, run_call}
 use Rattle.definition.specs.Promises.{Untouched, StartPromise}
 use Rattle.storage.specs.declared.control.Control.{Control}
 use Rattle.storage.specs.Control.{with_registers}

@@ -2,7 +2,6 @@
 use Rattle.std.specs.Prelude.{ℕ, List, eqb, length, get_or}
 use Rattle.base.specs.Test.{if◌then◌else◌}
 use Rattle.base.specs.Word.{is_even}
-use Rattle.layout.specs.declared.sections.Span.{Span}
 use Rattle.text.specs.declared.number.Hex.{Hex}
 use Rattle.text.specs.declared.number.Hex.TheVariants.{Parsed as HexIs, Unreadable as NoHex}
 use Rattle.text.specs.declared.number.Decimal.{Decimal}

@@ -20,7 +20,7 @@ use Rattle.lines.specs.declared.line.Line.{Line}
 use Rattle.lines.specs.declared.line.Line.TheVariants.{Parsed, Unreadable}
 use Rattle.text.specs.Text.{newline, find, head, rest}
 use Rattle.lines.specs.Line.{parse_line}
-use Rattle.loader.specs.Setup.{prepended, pieces, line_stored, memory_from, sheet_memory, stamp_of, stamps_from}
+use Rattle.loader.specs.Setup.{pieces, line_stored, memory_from, sheet_memory, stamp_of, stamps_from}
 
 -- ---- pieces
 

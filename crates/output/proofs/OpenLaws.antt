@@ -1,10 +1,9 @@
 -- An opened sheet, refused and read. Assumes nothing.
 use Prim.Native.Nat.{ℕ, ◌+◌, ◌-◌, ◌≤◌}
 use mathlib.Core.Bool.{true}
-use mathlib.Core.Path.{◌≡◌, refl, sym, ◌∙◌, ap, subst}
-use mathlib.Core.List.{List, [], ◌++◌}
+use mathlib.Core.Path.{◌≡◌, refl, sym, ◌∙◌, ap}
+use mathlib.Core.List.{List, ◌++◌}
 use native.Mathlib.Omega.{arith}
-use native.Mathlib.Nat.{zero-add}
 use lib.ListN.{length, take, drop}
 use lib.Seq.{sets, sets-eq, length-sets, take_at}
 use borrow.Author.Tests.{eq-eqb, leb-true, le-leb}
@@ -12,7 +11,7 @@ use Rattle.base.specs.declared.refusal.Refusal.{Refusal}
 use Rattle.base.specs.Limits.{memory_bytes, most_stamps}
 use Rattle.base.proofs.Tests.{each, if_true}
 use Rattle.layout.specs.declared.sections.Layout.{Layout}
-use Rattle.definition.specs.Setting.{Setting, setting_of}
+use Rattle.definition.specs.Setting.{setting_of}
 use Rattle.definition.specs.declared.state.State.{State}
 use Rattle.definition.specs.State.{world, start}
 use Rattle.base.specs.Verdict.{verdict}
@@ -22,7 +21,6 @@ use Rattle.base.specs.FirstFailure.{first_failure}
 use Rattle.base.specs.declared.verdict.Verdict.{Verdict}
 use Rattle.definition.proofs.frame.FrameLaws.{ready_at_start}
 use Rattle.sheet.specs.declared.reader.Setup.{Setup}
-use Rattle.sheet.specs.declared.reader.Answer.{Answer}
 use Rattle.sheet.specs.declared.reader.Answer.TheVariants.{Read, Refused}
 use Rattle.loader.specs.Setup.{sheet_memory, sheet_stamps}
 use Rattle.sheet.specs.Sheet.{sheet_answer}
@@ -32,11 +30,9 @@ use Rattle.transcript.specs.Transcript.{header_line}
 use Rattle.steplines.specs.declared.remaining.Remaining.TheVariants.{RefusalLine, Header}
 use Rattle.transcribe.specs.declared.progress.Transcript.{Transcript}
 use Rattle.transcribe.specs.Transcribe.{steps_text}
-use Rattle.transcribe.specs.Promise.{world_of, text_left}
 use Rattle.transcribe.proofs.FilledLaws.{no_tests}
-use Rattle.output.specs.declared.open.SheetRun.{SheetRun}
 use Rattle.output.specs.Output.{output_of, sheet_output}
-use Rattle.output.specs.Open.{opened_memory, opened_stamps, no_layout, opened_run, setting_opened, OpenPromise}
+use Rattle.output.specs.Open.{opened_memory, opened_stamps, no_layout, opened_run, OpenPromise}
 use Rattle.output.proofs.PagesLaws.{tests_together}
 
 -- a transcript of which nothing is written

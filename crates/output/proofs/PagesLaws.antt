@@ -1,12 +1,11 @@
 -- Pages one after another make the whole. Assumes nothing.
-use Prim.Native.Nat.{ℕ, zero, suc, ◌+◌, ◌-◌, ◌≤◌, ◌<◌}
+use Prim.Native.Nat.{ℕ, zero, suc, ◌+◌, ◌-◌, ◌≤◌}
 use mathlib.Core.Bool.{true}
 use mathlib.Core.Path.{◌≡◌, refl, sym, ◌∙◌, ap}
 use mathlib.Core.List.{List, [], ◌∷◌, ◌++◌}
 use native.Mathlib.Omega.{arith}
 use lib.Dec.{leb}
 use lib.ListN.{length}
-use borrow.Author.Tests.{leb-true, le-leb}
 use Rattle.base.specs.Limits.{most_budget}
 use Rattle.base.specs.FirstFailure.{first_failure}
 use Rattle.base.specs.declared.verdict.Verdict.{Verdict}
@@ -15,7 +14,7 @@ use Rattle.base.specs.Verdict.{verdict}
 use Rattle.base.proofs.Tests.{if_true}
 use Rattle.definition.specs.Setting.{Setting}
 use Rattle.definition.specs.State.{World}
-use Rattle.definition.specs.Run.{Going, goes, stops, ending, world_after, step_of, stop_or, run_from}
+use Rattle.definition.specs.Run.{Going, goes, stops, ending, world_after, step_of, run_from}
 use Rattle.definition.specs.Calls.{transcript_tests}
 use Rattle.definition.specs.Laws.{world_at, ReadyToRun}
 use Rattle.definition.proofs.frame.FrameLaws.{ready_kept}
@@ -25,10 +24,9 @@ use Rattle.steplines.specs.declared.remaining.Remaining.TheVariants.{RefusalLine
 use Rattle.transcribe.specs.declared.progress.Transcript.{Transcript}
 use Rattle.steplines.specs.Page.{line_room, Page}
 use Rattle.transcribe.specs.Transcribe.{remaining_text, lines_left, page_of}
-use Rattle.transcribe.specs.Promise.{world_of, transcript_after, fill_tests, text_left, page_by, page_call}
+use Rattle.transcribe.specs.Promise.{world_of, transcript_after, fill_tests, text_left, page_by}
 use Rattle.transcribe.proofs.TextLaws.{PageIs, page_of_is, stands_still, lands, stopped}
 use Rattle.transcribe.proofs.FilledLaws.{page_promised}
-use Rattle.output.specs.Open.{OpenPromise}
 use Rattle.output.specs.Laws.{pages_text, Roomy, none, more, PagesMakeWhole, PagesMakeOutput}
 
 module _ (S : Setting) where

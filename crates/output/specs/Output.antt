@@ -1,6 +1,6 @@
 -- What a sheet leads to: every byte that the bench writes.
 use Rattle.std.specs.Prelude.{ℕ, List, ◌++◌}
-use Rattle.definition.specs.Setting.{Setting, setting_of}
+use Rattle.definition.specs.Setting.{setting_of}
 use Rattle.definition.specs.State.{world, start}
 use Rattle.sheet.specs.declared.reader.Answer.{Answer}
 use Rattle.sheet.specs.declared.reader.Answer.TheVariants.{Read, Refused}

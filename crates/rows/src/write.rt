@@ -48,6 +48,7 @@ fn takes_registers(row: Row, s: u8, d: u8) -> bool
 }
 
 // There are words for the encoding.
+#[tactic(auto, unfolding(crate::specs::Words::encodable, base::specs::Test::all))]
 fn is_encodable(e: Encoding) -> bool
     ensures { result ≡ encodable e }
 {

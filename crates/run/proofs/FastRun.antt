@@ -1,14 +1,12 @@
 -- What the body of a run's loop does: a burst of fast steps, or one step. Assumes nothing.
-use mathlib.Core.Path.{◌≡◌, refl, sym, ◌∙◌, ap}
+use mathlib.Core.Path.{◌≡◌, sym, ◌∙◌, ap}
 use mathlib.Core.Bool.{false}
-use mathlib.Core.List.{List}
 use Prim.Native.Nat.{ℕ, suc, ◌+◌, ◌-◌, ◌≤◌}
 use native.Mathlib.Omega.{arith}
 use Rattle.base.specs.Limits.{last_clock}
 use Rattle.definition.specs.Setting.{Setting}
-use Rattle.answers.specs.declared.answer.Outcome.TheVariants.{Ran}
 use Rattle.definition.specs.State.{World}
-use Rattle.definition.specs.Interrupt.{Step, gives}
+use Rattle.definition.specs.Interrupt.{Step}
 use Rattle.definition.specs.Run.{world_after, step_of, run_from, stop_or}
 use Rattle.fast.specs.Steps.{RanSteps, none, on}
 use Rattle.definition.proofs.step.CycleLaws.{clock_rises}

@@ -1,6 +1,6 @@
 -- A list of calls is a chain of steps of a running machine, each from where the last one left. Assumes nothing.
 use mathlib.Core.Path.{◌≡◌, refl, sym, ◌∙◌, ap, subst}
-use mathlib.Core.Bool.{true, false, true≢false}
+use mathlib.Core.Bool.{false, true≢false}
 use mathlib.Core.List.{List, [], ◌∷◌, ◌++◌}
 use Prim.Native.Nat.{ℕ, zero, suc, ◌+◌, ◌≤◌}
 use native.Mathlib.Omega.{arith}
@@ -9,12 +9,11 @@ use borrow.Author.Tests.{leb-true}
 use Rattle.base.specs.Limits.{memory_bytes, last_clock}
 use Rattle.base.specs.declared.verdict.Verdict.{Verdict}
 use Rattle.base.specs.declared.verdict.Verdict.TheVariants.{Taken as taken, Refused as refused}
-use Rattle.base.specs.FirstFailure.{Test}
 use Rattle.base.specs.Verdict.{verdict}
 use Rattle.layout.specs.Rules.{accepted}
 use Rattle.definition.specs.Setting.{Setting}
 use Rattle.answers.specs.declared.answer.End.TheVariants.{Spent}
-use Rattle.definition.specs.State.{World, world}
+use Rattle.definition.specs.State.{World}
 use Rattle.definition.specs.Run.{Going, goes, stops, ending, Stop, Move, world_after, step_of, stop_or, run_from, run, none_or, moves}
 use Rattle.definition.specs.Calls.{step_tests, run_tests, step_call, run_call}
 use Rattle.definition.specs.Laws.{HaltedStays, FrameKept, LengthKept, ReadyToRun, world_at}

@@ -1,31 +1,28 @@
 -- How long a visit lasts: its own instruction cycles, and what interrupts add; and when a request is served.
-use Rattle.std.specs.Prelude.{ℕ, ◌+◌, ◌≡◌, Bool, true, not, List, [], ◌∷◌, ◌++◌, eqb}
-use Rattle.base.specs.Test.{if◌then◌else◌, all}
+use Rattle.std.specs.Prelude.{ℕ, ◌+◌, ◌≡◌, true, List, [], ◌∷◌, ◌++◌}
+use Rattle.base.specs.Test.{if◌then◌else◌}
 use Rattle.isa.specs.declared.instruction.Instruction.{Instruction}
 use Rattle.isa.specs.declared.instruction.Instruction.TheVariants.{Reti}
 use Rattle.isa.specs.Cycles.{cycles_of}
-use Rattle.layout.specs.Sections.{entry, inside}
+use Rattle.layout.specs.Sections.{inside}
 use Rattle.alu.specs.Status.{gie}
 use Rattle.definition.specs.Setting.{Setting}
 use Rattle.definition.specs.declared.state.Stamp.TheVariants.{Never, At}
-use Rattle.definition.specs.declared.state.Time.{Time}
 use Rattle.definition.specs.declared.state.SavedContext.TheVariants.{Held}
-use Rattle.definition.specs.declared.state.State.{State}
 use Rattle.answers.specs.declared.answer.Outcome.{Outcome}
 use Rattle.answers.specs.declared.answer.Outcome.TheVariants.{Ran, Plain, Padded, Chained, Back, Reset, Halted}
 use Rattle.answers.specs.declared.answer.StartAnswer.TheVariants.{Done}
 use Rattle.definition.specs.Registers.{pc, sr}
 use Rattle.answers.specs.Outcome.{is_reset}
 use Rattle.definition.specs.Time.{pass}
-use Rattle.definition.specs.State.{World, is_held}
+use Rattle.definition.specs.State.{is_held}
 use Rattle.definition.specs.declared.judge.Judged.TheVariants.{Acts}
-use Rattle.definition.specs.Interrupt.{Step}
 use Rattle.definition.specs.Step.{executed, judged}
 use Rattle.definition.specs.Run.{Move}
-use Rattle.definition.specs.Calls.{Called, start_call}
+use Rattle.definition.specs.Calls.{start_call}
 use Rattle.secrecy.specs.Calls.{Call, run_of}
 use Rattle.secrecy.specs.Sighting.{begins_outside}
-use Rattle.secrecy.specs.Visit.{VisitEnd, Fate, ended, away, Visit, starts_visit, visits, fate_at, own_cycles}
+use Rattle.secrecy.specs.Visit.{VisitEnd, ended, away, starts_visit, visits, fate_at, own_cycles}
 use Rattle.secrecy.specs.Secrecy.{start_world}
 
 -- what a step of a service routine adds: 17 if it ends in a padded interrupt, 11 if it chains, 6 and its own cycles if it ends in

@@ -3,13 +3,11 @@ use Rattle.std.specs.Prelude.{ℕ, ◌≡◌, Bool, true, List, [], ◌∷◌, l
 use Rattle.base.specs.Test.{any}
 use Rattle.layout.specs.Sections.{outside}
 use Rattle.definition.specs.Setting.{Setting}
-use Rattle.definition.specs.declared.state.Time.{Time}
-use Rattle.definition.specs.declared.state.State.{State}
 use Rattle.answers.specs.declared.answer.StartAnswer.TheVariants.{Done}
 use Rattle.definition.specs.Memory.{byte_at}
 use Rattle.definition.specs.State.{World, world}
 use Rattle.definition.specs.Run.{Move}
-use Rattle.definition.specs.Calls.{Called, start_call}
+use Rattle.definition.specs.Calls.{start_call}
 use Rattle.secrecy.specs.Calls.{Call, run_of, left_by_all}
 use Rattle.secrecy.specs.Sighting.{Sighting, sightings}
 use Rattle.secrecy.specs.Visit.{VisitEnd, Fate, unended, ended, away, Visit, visits, fate_at, ended_by}

@@ -4,14 +4,11 @@ use Rattle.base.specs.Test.{if◌then◌else◌, all}
 use Rattle.layout.specs.Sections.{outside}
 use Rattle.definition.specs.Setting.{Setting}
 use Rattle.definition.specs.declared.state.Stamp.{Stamp}
-use Rattle.definition.specs.declared.state.Time.{Time}
-use Rattle.definition.specs.declared.state.State.{State}
 use Rattle.answers.specs.declared.answer.Outcome.{Outcome}
 use Rattle.answers.specs.declared.answer.Outcome.TheVariants.{Ran, Plain, Padded, Chained, Back, Reset, Halted}
 use Rattle.definition.specs.Memory.{byte_at}
 use Rattle.definition.specs.Registers.{pc}
 use Rattle.definition.specs.State.{World}
-use Rattle.definition.specs.Interrupt.{Step}
 use Rattle.definition.specs.Run.{Move, world_after}
 
 -- clock, registers, outside bytes, slot and alarm

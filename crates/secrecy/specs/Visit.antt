@@ -4,14 +4,12 @@ use Rattle.base.specs.Test.{if◌then◌else◌, all}
 use Rattle.isa.specs.Cycles.{cycles_of}
 use Rattle.layout.specs.Sections.{entry, inside}
 use Rattle.definition.specs.Setting.{Setting}
-use Rattle.definition.specs.declared.state.Time.{Time}
 use Rattle.definition.specs.declared.state.State.{State}
 use Rattle.definition.specs.Registers.{pc}
 use Rattle.answers.specs.Outcome.{is_reset}
-use Rattle.definition.specs.State.{World, is_held}
+use Rattle.definition.specs.State.{is_held}
 use Rattle.definition.specs.declared.judge.Judged.{Judged}
 use Rattle.definition.specs.declared.judge.Judged.TheVariants.{Faulty, Acts}
-use Rattle.definition.specs.Interrupt.{Step}
 use Rattle.definition.specs.Step.{judged}
 use Rattle.definition.specs.Run.{Move}
 use Rattle.secrecy.specs.Sighting.{begins_outside}

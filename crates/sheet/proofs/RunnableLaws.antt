@@ -22,7 +22,6 @@ use Rattle.lines.specs.declared.line.Line.TheVariants.{Parsed, Unreadable}
 use Rattle.sheet.specs.declared.reader.Setup.{Setup}
 use Rattle.sheet.specs.declared.reader.Answer.{Answer}
 use Rattle.sheet.specs.declared.reader.Answer.TheVariants.{Read, Refused}
-use Rattle.sheet.specs.declared.reader.Stage.{Stage}
 use Rattle.sheet.specs.declared.reader.Stage.TheVariants.{Goes, Stops}
 use Rattle.lines.specs.Line.{parse_line}
 use Rattle.sheet.specs.Sheet.{none_follows, nothing_follows, fits_timetable, budget_answer, stage_of, unless_stopped, if_parsed, body_from, first_of, if_layout, lines_answer, sheet_answer}

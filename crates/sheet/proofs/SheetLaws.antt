@@ -1,7 +1,7 @@
 -- The lines of a sheet, one at a time: what stands before the first newline is the first line. Assumes nothing.
 use Prim.Native.Nat.{ℕ, suc, ◌+◌, ◌≤◌, ◌<◌}
 use mathlib.Core.Path.{◌≡◌, refl, sym, ◌∙◌, ap}
-use mathlib.Core.Bool.{Bool, true, false}
+use mathlib.Core.Bool.{false}
 use mathlib.Core.List.{List, [], ◌∷◌}
 use native.Mathlib.Omega.{arith}
 use lib.Dec.{eqb}
@@ -16,7 +16,6 @@ use Rattle.lines.specs.declared.line.Content.{Content}
 use Rattle.lines.specs.declared.line.Line.TheVariants.{Parsed, Unreadable}
 use Rattle.sheet.specs.declared.reader.Answer.{Answer}
 use Rattle.sheet.specs.declared.reader.Answer.TheVariants.{Refused}
-use Rattle.sheet.specs.declared.reader.Stage.{Stage}
 use Rattle.sheet.specs.declared.reader.Stage.TheVariants.{Goes, Stops}
 use Rattle.text.specs.Text.{newline, find, head, rest}
 use Rattle.lines.specs.Line.{parse_line}

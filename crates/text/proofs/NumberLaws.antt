@@ -10,7 +10,6 @@ use borrow.Author.Tests.{le-leb, lt-leb}
 use Rattle.base.proofs.Tests.{if_true, if_false}
 use Rattle.text.specs.declared.number.Digit.{Digit}
 use Rattle.text.specs.declared.number.Digit.TheVariants.{Parsed as Digits, Unreadable as NoDigit}
-use Rattle.text.specs.declared.number.Decimal.{Decimal}
 use Rattle.text.specs.declared.number.Decimal.TheVariants.{Parsed as DecimalIs, Unreadable as NoDecimal}
 use Rattle.text.specs.Number.{decimal_digit, one_more, digits_from}
 use Rattle.text.specs.internal.Digit.{within}

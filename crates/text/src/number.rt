@@ -37,6 +37,9 @@ fn decimal_digit(b: u8) -> Digit
     Digit::Unreadable
 }
 
+// The last hexadecimal digit.
+const LAST_HEX_DIGIT: u8 = b'F';
+
 // A hexadecimal digit, capitals.
 fn hex_digit(b: u8) -> Digit
     ensures { (result ≡ hex_digit b) × within 15 result }
@@ -44,7 +47,7 @@ fn hex_digit(b: u8) -> Digit
     if b < b'A' {
         return decimal_digit(b);
     }
-    if b <= b'F' {
+    if b <= LAST_HEX_DIGIT {
         return Digit::Parsed(b - b'A' + 10);
     }
     Digit::Unreadable

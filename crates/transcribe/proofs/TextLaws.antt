@@ -1,20 +1,19 @@
 -- What a page says is what comes next, and where it stands is where the run is. Assumes nothing.
 use Prim.Native.Nat.{ℕ, zero, suc, ◌+◌, ◌-◌, ◌≤◌, ◌<◌}
-use mathlib.Core.Bool.{Bool, true, false}
+use mathlib.Core.Bool.{true}
 use mathlib.Core.Path.{◌≡◌, refl, sym, ◌∙◌, ap}
 use mathlib.Core.List.{List, [], ◌∷◌, ◌++◌, append_assoc, append-nil}
 use native.Mathlib.Omega.{arith}
 use lib.Dec.{ltb}
 use lib.ListN.{length}
 use borrow.Author.Tests.{ltb-true}
-use Rattle.base.specs.Test.{if◌then◌else◌}
-use Rattle.base.proofs.Tests.{choose, if_true, if_false}
+use Rattle.base.proofs.Tests.{choose}
 use Rattle.base.specs.declared.refusal.Refusal.{Refusal}
 use Rattle.definition.specs.Setting.{Setting}
 use Rattle.answers.specs.declared.answer.End.{End}
 use Rattle.answers.specs.declared.answer.End.TheVariants.{Spent}
 use Rattle.definition.specs.State.{World}
-use Rattle.definition.specs.Run.{Going, goes, stops, ending, Move, world_after, step_of, stop_or, run_from, none_or, moves}
+use Rattle.definition.specs.Run.{Going, goes, stops, ending, world_after, step_of, stop_or, run_from, none_or, moves}
 use Rattle.definition.specs.Laws.{world_at}
 use Rattle.transcript.specs.Transcript.{header_line, end_line, refusal_line}
 use Rattle.steplines.specs.declared.remaining.Remaining.{Remaining}

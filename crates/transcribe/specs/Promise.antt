@@ -1,5 +1,5 @@
 -- What a call that continues a transcript promises.
-use Rattle.std.specs.Prelude.{ℕ, ◌-◌, ◌≤◌, List, [], ◌∷◌, ◌++◌, ◌≡◌, length}
+use Rattle.std.specs.Prelude.{ℕ, ◌-◌, ◌≤◌, List, [], ◌++◌, ◌≡◌, length}
 use Rattle.std.proofs.lemmas.List.Edits.{sets}
 use Rattle.base.specs.declared.refusal.Refusal.{Refusal}
 use Rattle.base.specs.FirstFailure.{Test}

@@ -1,7 +1,6 @@
 -- A run's transcript, and the part of it that one call writes.
 use Rattle.std.specs.Prelude.{ℕ, ◌+◌, ◌-◌, List, [], ◌∷◌, ◌++◌, ltb, length}
 use Rattle.base.specs.Test.{if◌then◌else◌}
-use Rattle.base.specs.declared.refusal.Refusal.{Refusal}
 use Rattle.definition.specs.Setting.{Setting}
 use Rattle.definition.specs.State.{World}
 use Rattle.definition.specs.Run.{Stop, Move, run_from, moves}

@@ -1,7 +1,6 @@
 -- One name that opens every definition of a run and of what is shown of it: a proof by computation says `unfolding computes`.
 use Rattle.base.specs.FirstFailure.{first_failure}
 use Rattle.base.specs.Test.{any}
-use Rattle.base.specs.Verdict.{verdict}
 use Rattle.definition.specs.Calls.{rising_from, timetable, start_call, step_call, run_call}
 use Rattle.definition.proofs.Computes.{computes as machine}
 use Rattle.secrecy.specs.Calls.{steps_of, left_by, run_of, left_by_all}

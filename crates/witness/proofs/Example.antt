@@ -6,7 +6,6 @@ use Prim.Native.Nat.{ℕ}
 use lib.ListN.{length}
 use Rattle.layout.specs.Sections.{outside}
 use Rattle.answers.specs.declared.answer.Outcome.TheVariants.{Ran, Back}
-use Rattle.answers.specs.declared.answer.StartAnswer.TheVariants.{Done}
 use Rattle.definition.specs.Memory.{byte_at}
 use Rattle.definition.specs.Run.{Move}
 use Rattle.secrecy.specs.Sighting.{sightings}

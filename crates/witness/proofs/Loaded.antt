@@ -10,13 +10,12 @@ use Rattle.base.specs.FirstFailure.{first_failure}
 use Rattle.base.specs.Test.{if◌then◌else◌}
 use Rattle.base.specs.Word.{drop_bit0}
 use Rattle.base.proofs.Tests.{if_true, cases, if_false}
-use Rattle.base.specs.Verdict.{verdict}
 use Rattle.layout.specs.declared.sections.Layout.{Layout}
 use Rattle.layout.specs.Sections.{outside}
 use Rattle.layout.specs.Rules.{accepted}
 use Rattle.answers.specs.declared.answer.StartAnswer.TheVariants.{Done}
 use Rattle.definition.specs.Memory.{byte_at, put_word}
-use Rattle.definition.specs.Calls.{Called, start_call}
+use Rattle.definition.specs.Calls.{start_call}
 use Rattle.definition.proofs.instruction.MemoryLaws.{put_length, put_side}
 use Rattle.witness.specs.Lines.{MLine, loaded, memory_of}
 

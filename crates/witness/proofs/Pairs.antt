@@ -11,10 +11,10 @@ use Rattle.layout.specs.declared.sections.Layout.{Layout}
 use Rattle.layout.specs.Rules.{accepted}
 use Rattle.definition.specs.Setting.{Setting}
 use Rattle.definition.specs.Run.{Move}
-use Rattle.secrecy.specs.Calls.{Call, running, run_of}
+use Rattle.secrecy.specs.Calls.{running, run_of}
 use Rattle.secrecy.specs.Sighting.{View, Sighting, seen, resumes, sightings}
 use Rattle.secrecy.specs.Visit.{VisitEnd, ended, away, Visit, own_cycles, visits_by}
-use Rattle.secrecy.specs.Secrecy.{start_world, EqualEnds, EndsRelated, AgreeAsFar, Agree, SecrecyUnder, Secrecy}
+use Rattle.secrecy.specs.Secrecy.{start_world, EqualEnds, EndsRelated, AgreeAsFar, SecrecyUnder, Secrecy}
 use Rattle.witness.specs.Lines.{MLine, memory_of}
 use Rattle.witness.specs.Needed.{SecrecyBy}
 use Rattle.witness.proofs.Computes.{computes}

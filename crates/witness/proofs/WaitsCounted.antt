@@ -1,13 +1,13 @@
 -- Waits are not own cycles: a request breaks into NOP at once, into MOV #0 7 a cycle later, and the wait is shorter. Assumes nothing.
 use mathlib.Core.Path.{◌≡◌, refl}
-use mathlib.Core.List.{List, [], ◌∷◌}
+use mathlib.Core.List.{[], ◌∷◌}
 use Prim.Native.Nat.{ℕ}
-use Rattle.secrecy.specs.Visit.{leaving, VisitEnd, ended, Visit}
+use Rattle.secrecy.specs.Visit.{leaving, VisitEnd, ended}
 use Rattle.secrecy.specs.Secrecy.{EqualEnds}
 use Rattle.definition.specs.Setting.{setting_of}
-use Rattle.witness.specs.Lines.{MLine, M}
+use Rattle.witness.specs.Lines.{M}
 use Rattle.witness.specs.Needed.{cycles_and_waits, WaitsNotOwn}
-use Rattle.witness.proofs.Pairs.{Module, Pair, pair_layout, Shown, shown, clock_seen, shown_computes, equal_as_far, one_visit, refuted}
+use Rattle.witness.proofs.Pairs.{Pair, pair_layout, Shown, shown, clock_seen, shown_computes, equal_as_far, one_visit, refuted}
 
 -- outside: MOV #0008 2 sets GIE, MOV #0040 0 enters the module, HLT at 0010, RETI at 0020; a module is NOP or MOV #0 7, then
 -- MOV #0010 0. A request at stamp 5: the one waits 12 cycles, the other 11, and a cycle on its return

@@ -1,12 +1,12 @@
 -- Own cycles are needed: two modules that leave alike, one a NOP later. Assumes nothing.
 use mathlib.Core.Path.{◌≡◌, refl}
-use mathlib.Core.List.{List, [], ◌∷◌}
+use mathlib.Core.List.{[], ◌∷◌}
 use Prim.Native.Nat.{ℕ}
-use Rattle.secrecy.specs.Visit.{leaving, VisitEnd, ended, Visit, own_cycles}
+use Rattle.secrecy.specs.Visit.{leaving, VisitEnd, ended, own_cycles}
 use Rattle.definition.specs.Setting.{setting_of}
-use Rattle.witness.specs.Lines.{MLine, M}
+use Rattle.witness.specs.Lines.{M}
 use Rattle.witness.specs.Needed.{EqualButOwn, OwnCyclesNeeded}
-use Rattle.witness.proofs.Pairs.{Module, Pair, pair_layout, Shown, shown, clock_seen, shown_computes, equal_as_far, one_visit, refuted}
+use Rattle.witness.proofs.Pairs.{Pair, pair_layout, Shown, shown, clock_seen, shown_computes, equal_as_far, one_visit, refuted}
 
 -- outside: MOV #0040 0 enters the module, HLT at 0010; one module is MOV #0010 0, the other NOP and the same
 unfoldable pair : Pair

@@ -1,14 +1,14 @@
 -- Registers are needed: two modules that leave alike, but for r5. Assumes nothing.
 use mathlib.Core.Path.{◌≡◌, refl}
-use mathlib.Core.List.{List, [], ◌∷◌}
+use mathlib.Core.List.{[], ◌∷◌}
 use Prim.Native.Nat.{ℕ}
 use Rattle.definition.specs.Setting.{setting_of}
 use Rattle.definition.specs.Registers.{register}
 use Rattle.secrecy.specs.Sighting.{View}
-use Rattle.secrecy.specs.Visit.{leaving, VisitEnd, ended, Visit, own_cycles}
-use Rattle.witness.specs.Lines.{MLine, M}
+use Rattle.secrecy.specs.Visit.{leaving, VisitEnd, ended, own_cycles}
+use Rattle.witness.specs.Lines.{M}
 use Rattle.witness.specs.Needed.{EqualButRegisters, RegistersNeeded}
-use Rattle.witness.proofs.Pairs.{Module, Pair, pair_layout, Shown, shown, shown_computes, equal_as_far, one_visit, refuted}
+use Rattle.witness.proofs.Pairs.{Pair, pair_layout, Shown, shown, shown_computes, equal_as_far, one_visit, refuted}
 
 -- outside: MOV #0040 0 enters the module, HLT at 0010; a module is MOV #0 5 or MOV #1 5, then MOV #0010 0
 unfoldable pair : Pair

@@ -1,15 +1,15 @@
 -- The way is needed: one module leaves for the reset vector's address, one resets, and a request is pending. Assumes nothing.
 use mathlib.Core.Path.{◌≡◌, refl}
-use mathlib.Core.List.{List, [], ◌∷◌}
+use mathlib.Core.List.{[], ◌∷◌}
 use Prim.Native.Nat.{ℕ}
 use Rattle.definition.specs.Setting.{setting_of}
 use Rattle.definition.specs.declared.state.Stamp.{Stamp}
 use Rattle.definition.specs.declared.state.Stamp.TheVariants.{Never, At}
 use Rattle.secrecy.specs.Sighting.{View}
-use Rattle.secrecy.specs.Visit.{Way, leaving, own_reset, VisitEnd, ended, Visit, own_cycles}
-use Rattle.witness.specs.Lines.{MLine, M}
+use Rattle.secrecy.specs.Visit.{Way, leaving, own_reset, VisitEnd, ended, own_cycles}
+use Rattle.witness.specs.Lines.{M}
 use Rattle.witness.specs.Needed.{EqualButWay, WayNeeded}
-use Rattle.witness.proofs.Pairs.{Module, Pair, pair_layout, Shown, shown, shown_computes, equal_as_far, one_visit, refuted}
+use Rattle.witness.proofs.Pairs.{Pair, pair_layout, Shown, shown, shown_computes, equal_as_far, one_visit, refuted}
 
 -- outside: MOV #0040 0 at the reset vector's address 0000, GIE clear; one module is NOP, NOP, JMP &5, the other 0000, which does not
 -- decode: four cycles each. A request at stamp 3. The clock value is that of the ends, so that no later visit is asked

@@ -4,18 +4,14 @@ use Rattle.std.specs.Prelude.{ℕ, ◌≡◌, true, List, [], ◌∷◌, ◌++�
 use Rattle.definition.specs.Setting.{Setting, setting_of}
 use Rattle.layout.specs.declared.sections.Layout.{Layout}
 use Rattle.layout.specs.Sections.{outside}
-use Rattle.definition.specs.declared.state.Time.{Time}
-use Rattle.definition.specs.declared.state.State.{State}
 use Rattle.answers.specs.declared.answer.Outcome.TheVariants.{Ran, Padded, Back, Halted}
 use Rattle.answers.specs.declared.answer.StartAnswer.TheVariants.{Done}
 use Rattle.definition.specs.Memory.{byte_at}
-use Rattle.definition.specs.State.{World}
-use Rattle.definition.specs.Interrupt.{Step}
 use Rattle.definition.specs.Run.{Move}
-use Rattle.definition.specs.Calls.{Called, start_call}
+use Rattle.definition.specs.Calls.{start_call}
 use Rattle.witness.specs.Lines.{MLine, M, memory_of, StepLine, line, lines_of}
-use Rattle.secrecy.specs.Calls.{Call, running, run_of}
-use Rattle.secrecy.specs.Sighting.{Sighting, sightings}
+use Rattle.secrecy.specs.Calls.{running, run_of}
+use Rattle.secrecy.specs.Sighting.{sightings}
 use Rattle.secrecy.specs.Visit.{away, visits}
 use Rattle.secrecy.specs.Secrecy.{start_world, Premise}
 

@@ -1,13 +1,9 @@
 -- Lines of a sheet and of a transcript: words that memory is loaded with, and what steps show.
 use Rattle.std.specs.Prelude.{ℕ, List, [], ◌∷◌, replicate}
 use Rattle.base.specs.Limits.{memory_bytes}
-use Rattle.definition.specs.declared.state.Time.{Time}
-use Rattle.definition.specs.declared.state.State.{State}
 use Rattle.answers.specs.declared.answer.Outcome.{Outcome}
 use Rattle.definition.specs.Memory.{put_word}
 use Rattle.definition.specs.Registers.{pc, sp, sr}
-use Rattle.definition.specs.State.{World}
-use Rattle.definition.specs.Interrupt.{Step}
 use Rattle.definition.specs.Run.{Move}
 
 -- an M line of a sheet: an address and its word

@@ -1,10 +1,6 @@
 -- What the premise of secrecy asks is needed: secrecy with less asked is false.
-use Rattle.std.specs.Prelude.{ℕ, ◌-◌, ◌≡◌, List}
+use Rattle.std.specs.Prelude.{ℕ, ◌-◌, ◌≡◌}
 use Rattle.definition.specs.Setting.{Setting}
-use Rattle.definition.specs.declared.state.Time.{Time}
-use Rattle.definition.specs.declared.state.State.{State}
-use Rattle.definition.specs.State.{World}
-use Rattle.definition.specs.Interrupt.{Step}
 use Rattle.definition.specs.Run.{Move}
 use Rattle.secrecy.specs.Visit.{VisitEnd, away, visits_by, own_cycles}
 use Rattle.secrecy.specs.Secrecy.{EqualEnds, EndsRelated, SecrecyUnder}

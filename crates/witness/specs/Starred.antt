@@ -9,7 +9,7 @@ use Rattle.layout.specs.Starred.{sheet_layout, access_cases}
 use Rattle.answers.specs.declared.answer.Outcome.TheVariants.{Ran, Plain, Padded, Back, Halted}
 use Rattle.definition.specs.State.{world, start}
 use Rattle.definition.specs.Run.{moves}
-use Rattle.witness.specs.Lines.{MLine, M, loaded, StepLine, line, lines_of}
+use Rattle.witness.specs.Lines.{M, loaded, StepLine, line, lines_of}
 
 -- the memory of document 01's sheet
 unfoldable pub sheet : List ℕ

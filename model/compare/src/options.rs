@@ -49,7 +49,7 @@ pub const USAGE: &str = "usage: compare short|long [--seed N] [--bench PATH | --
 
 /// What to do where there is no bench program.
 const ADVICE: &str =
-    "build it with rt check bench, name it with --bench, or leave it out with --without-bench";
+    "build it with ./bench, name it with --bench, or leave it out with --without-bench";
 
 /// The seed where none is given.
 const SEED: u64 = 1;

@@ -23,7 +23,7 @@ pub fn be_model() -> std::io::Result<()> {
 pub fn rows(bench: &Path) -> Result<String, String> {
     if !bench.is_file() {
         return Ok(
-            "no bench program: build it with rt check bench, or name it with --bench".into(),
+            "no bench program: build it with ./bench, or name it with --bench".into(),
         );
     }
     let sheet = sheet(&plain(), std::iter::empty(), STEPS);

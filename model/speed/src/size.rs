@@ -4,7 +4,7 @@ use std::process::Command;
 
 const LIBRARY: &str = concat!(
     env!("CARGO_MANIFEST_DIR"),
-    "/../../target/staticlib/libembed.a"
+    "/../../crates/embed/out/libembed.a"
 );
 
 /// Code and constants, as `size` counts them.

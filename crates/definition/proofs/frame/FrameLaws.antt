@@ -14,7 +14,6 @@ use Rattle.base.specs.declared.refusal.Refusal.TheVariants.{Distance, Clock}
 use Rattle.base.proofs.Tests.{each, every, if_true, choose}
 use Rattle.base.specs.declared.verdict.Verdict.{Verdict}
 use Rattle.base.specs.declared.verdict.Verdict.TheVariants.{Taken as taken, Refused as refused}
-use Rattle.base.specs.Verdict.{verdict}
 use Rattle.isa.specs.declared.instruction.Instruction.{Instruction}
 use Rattle.layout.specs.Sections.{inside}
 use Rattle.layout.specs.Rules.{accepted}

@@ -1,6 +1,6 @@
 -- What a call knows where it is taken, and what it must hand back. Assumes nothing.
 use mathlib.Core.Path.{◌≡◌, refl, sym, ◌∙◌, ap}
-use mathlib.Core.Bool.{true, true≢false}
+use mathlib.Core.Bool.{true}
 use mathlib.Core.List.{List}
 use Prim.Native.Nat.{ℕ, ◌≤◌}
 use lib.ListN.{length}
@@ -20,11 +20,9 @@ use Rattle.answers.specs.declared.answer.StartAnswer.{StartAnswer}
 use Rattle.answers.specs.declared.answer.StepAnswer.{StepAnswer}
 use Rattle.answers.specs.declared.answer.RunAnswer.{RunAnswer}
 use Rattle.definition.specs.State.{World, world}
-use Rattle.answers.specs.Outcome.{kind_letter, end_letter}
-use Rattle.definition.specs.Run.{step_of, run}
-use Rattle.definition.specs.Answers.{start_refusal, step_refusal, run_refusal, cause_of, step_kind, step_cause, run_end, run_steps}
+use Rattle.definition.specs.Answers.{start_refusal, step_refusal, run_refusal, step_kind, step_cause, run_end, run_steps}
 use Rattle.definition.specs.Calls.{timetable, start_tests, step_tests, run_tests, Called, called, start_answered, step_answered, run_answered, start_call, step_call, run_call}
-use Rattle.definition.specs.Promises.{Untouched, StartPromise, StepPromise, RunPromise}
+use Rattle.definition.specs.Promises.{StartPromise, StepPromise, RunPromise}
 use Rattle.definition.specs.Laws.{in_order, RefusalsInOrder, RefusedUntouched}
 
 -- ---- what is known where a call is taken

@@ -8,7 +8,6 @@ use Rattle.base.proofs.Tests.{if_false, choose}
 use Rattle.isa.specs.declared.instruction.Instruction.{Instruction}
 use Rattle.isa.specs.declared.instruction.Instruction.TheVariants.{Reti}
 use Rattle.isa.specs.Cycles.{cycles_of}
-use Rattle.layout.specs.declared.sections.Layout.{Layout}
 use Rattle.layout.specs.Sections.{inside}
 use Rattle.definition.specs.Setting.{Setting}
 use Rattle.definition.specs.declared.state.Stamp.{Stamp}
@@ -24,7 +23,7 @@ use Rattle.definition.specs.Time.{pass}
 use Rattle.definition.specs.State.{is_held, world}
 use Rattle.definition.specs.declared.judge.Judged.{Judged}
 use Rattle.definition.specs.declared.judge.Judged.TheVariants.{Faulty, Acts}
-use Rattle.definition.specs.Judge.{privileged, is_reti, judge}
+use Rattle.definition.specs.Judge.{privileged, is_reti}
 use Rattle.definition.specs.Act.{memory_after}
 use Rattle.definition.specs.Interrupt.{Step, gives, due, reset, plain, padded, interrupted, chained, back, resumed}
 use Rattle.definition.specs.Step.{is_hlt, executed, judged, ordinary, performed, step_judged, step}

@@ -2,7 +2,6 @@
 use Rattle.std.specs.Prelude.{ℕ, ◌≡◌, true, not, List}
 use Rattle.alu.specs.Status.{gie}
 use Rattle.definition.specs.Setting.{Setting}
-use Rattle.definition.specs.declared.state.Time.{Time}
 use Rattle.definition.specs.State.{world}
 use Rattle.storage.specs.declared.control.Control.{Control}
 use Rattle.storage.specs.Control.{with_registers}

@@ -1,7 +1,6 @@
 use mathlib.Core.Path.{sym}
 use Rattle.base.specs.Test.{if◌then◌else◌}
 use Rattle.definition.specs.Act.{registers_after}
-use borrow.Author.Rules.{rules}
 use Rattle.act.proofs.instruction.branched_registers.Goals as goal
 
 pub returns-then-zero_is_set : goal.returns-then-zero_is_set

@@ -1,4 +1,3 @@
-use borrow.Author.Rules.{rules}
 use Rattle.act.proofs.instruction.flagged_registers.Goals as goal
 
 pub returns : goal.returns

@@ -1,5 +1,4 @@
 use Rattle.definition.specs.Act.{registers_after}
-use borrow.Author.Rules.{rules}
 use Rattle.act.proofs.instruction.inverted_registers.Goals as goal
 
 pub returns : goal.returns

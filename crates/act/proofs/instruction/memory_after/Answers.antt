@@ -1,5 +1,4 @@
 use Rattle.definition.specs.Act.{memory_after}
-use borrow.Author.Rules.{rules}
 use Rattle.act.proofs.instruction.memory_after.Goals as goal
 
 pub returns-in-Hlt : goal.returns-in-Hlt

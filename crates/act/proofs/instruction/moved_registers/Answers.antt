@@ -1,5 +1,4 @@
 use Rattle.definition.specs.Act.{registers_after}
-use borrow.Author.Rules.{rules}
 use Rattle.act.proofs.instruction.moved_registers.Goals as goal
 
 pub returns-in-Register : goal.returns-in-Register

@@ -1,5 +1,4 @@
 use Rattle.definition.specs.Act.{past}
-use borrow.Author.Rules.{rules}
 use Rattle.act.proofs.instruction.pc_past.Goals as goal
 
 pub returns : goal.returns

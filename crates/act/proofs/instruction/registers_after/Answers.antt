@@ -6,7 +6,6 @@ use Rattle.isa.specs.declared.instruction.Operand.{Operand}
 use Rattle.isa.specs.declared.instruction.Operand.TheVariants.{Register, Pointed, Constant}
 use Rattle.isa.specs.declared.instruction.Instruction.TheVariants.{Mov}
 use Rattle.definition.specs.Act.{registers_after}
-use borrow.Author.Rules.{rules}
 use Rattle.act.proofs.instruction.registers_after.Goals as goal
 
 -- MOV does not look at the device

@@ -1,4 +1,3 @@
-use borrow.Author.Rules.{rules}
 use Rattle.act.proofs.instruction.stored_registers.Goals as goal
 
 pub returns : goal.returns

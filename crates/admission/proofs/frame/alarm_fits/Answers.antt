@@ -1,4 +1,3 @@
-use borrow.Author.Rules.{rules}
 use Rattle.admission.proofs.frame.alarm_fits.Goals as goal
 
 pub returns-in-At : goal.returns-in-At

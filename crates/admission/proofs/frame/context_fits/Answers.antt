@@ -2,7 +2,6 @@ use mathlib.Core.Path.{refl}
 use borrow.Author.Tests.{le-leb, lt-leb}
 use Rattle.base.proofs.Tests.{and_stop, and_then, and_last}
 use Rattle.definition.specs.Registers.{register}
-use borrow.Author.Rules.{rules}
 use Rattle.admission.proofs.frame.context_fits.Goals as goal
 
 pub returns-then-inside : goal.returns-then-inside

@@ -1,6 +1,5 @@
 use Rattle.base.proofs.Tests.{and_stop, and_then, and_last}
 use Rattle.definition.specs.State.{framed}
-use borrow.Author.Rules.{rules}
 use Rattle.admission.proofs.frame.is_framed.Goals as goal
 
 pub returns-then-alarm_fits : goal.returns-then-alarm_fits

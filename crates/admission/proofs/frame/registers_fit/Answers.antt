@@ -1,7 +1,6 @@
 use mathlib.Core.Path.{refl}
 use Rattle.base.proofs.Tests.{and_stop, and_then, and_last}
 use Rattle.definition.specs.Registers.{register}
-use borrow.Author.Rules.{rules}
 use Rattle.admission.proofs.frame.registers_fit.Goals as goal
 
 pub returns-then-is_even-2 : goal.returns-then-is_even-2

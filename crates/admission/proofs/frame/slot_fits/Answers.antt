@@ -1,6 +1,5 @@
 use mathlib.Core.Path.{refl}
 use borrow.Author.Tests.{lt-ltb, le-ltb}
-use borrow.Author.Rules.{rules}
 use Rattle.base.proofs.Tests.{and_stop, and_then, and_last}
 use Rattle.admission.proofs.frame.slot_fits.Goals as goal
 

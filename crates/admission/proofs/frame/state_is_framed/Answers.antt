@@ -1,4 +1,3 @@
-use borrow.Author.Rules.{rules}
 use Rattle.admission.proofs.frame.state_is_framed.Goals as goal
 
 pub returns : goal.returns

@@ -1,6 +1,5 @@
 use Rattle.base.specs.FirstFailure.{first_failure}
 use Rattle.base.specs.Test.{if◌then◌else◌}
-use Rattle.base.specs.Verdict.{verdict}
 use Rattle.admission.proofs.verdict.first_refusal.Goals as goal
 
 pub returns-then-not-whole : goal.returns-then-not-whole

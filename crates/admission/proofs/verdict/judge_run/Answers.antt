@@ -1,5 +1,4 @@
 use mathlib.Core.Path.{sym}
-use borrow.Author.Rules.{rules}
 use Rattle.admission.proofs.verdict.judge_run.Goals as goal
 
 pub returns : goal.returns

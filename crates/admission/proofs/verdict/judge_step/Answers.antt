@@ -1,5 +1,4 @@
 use mathlib.Core.Path.{sym}
-use borrow.Author.Rules.{rules}
 use Rattle.base.specs.Test.{if◌then◌else◌}
 use Rattle.base.specs.FirstFailure.{first_failure}
 use Rattle.admission.proofs.verdict.judge_step.Goals as goal

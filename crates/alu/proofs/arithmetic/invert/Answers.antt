@@ -1,4 +1,3 @@
-use borrow.Author.Rules.{rules}
 use Rattle.alu.proofs.arithmetic.invert.Goals as goal
 
 pub returns : goal.returns

@@ -1,6 +1,5 @@
 use native.Mathlib.Omega.{arith}
 use Rattle.alu.specs.Status.{flags_of}
-use borrow.Author.Rules.{rules}
 use Rattle.alu.proofs.status.flags_of.Goals as goal
 
 pub returns : goal.returns

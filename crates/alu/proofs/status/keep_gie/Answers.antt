@@ -1,6 +1,5 @@
 use mathlib.Core.Path.{refl}
 use Rattle.alu.specs.Status.{keep_gie}
-use borrow.Author.Rules.{rules}
 use Rattle.alu.proofs.status.keep_gie.Goals as goal
 
 pub returns : goal.returns

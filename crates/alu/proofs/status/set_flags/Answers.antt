@@ -1,5 +1,4 @@
 use Rattle.alu.specs.Status.{set_flags, without_flags}
-use borrow.Author.Rules.{rules}
 use Rattle.alu.proofs.status.set_flags.Goals as goal
 
 pub returns : goal.returns

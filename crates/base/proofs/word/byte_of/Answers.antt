@@ -1,4 +1,4 @@
-use Rattle.std.proofs.Common.{rules, le-ltb, lt-ltb}
+use Rattle.std.proofs.Common.{le-ltb, lt-ltb}
 use Rattle.base.specs.Test.{if◌then◌else◌}
 use Rattle.base.specs.Word.{byte_of}
 use Rattle.base.proofs.word.byte_of.Goals as goal

@@ -1,4 +1,4 @@
-use Rattle.std.proofs.Common.{sym, refl, ◌∙◌, true≢false, arith, rules}
+use Rattle.std.proofs.Common.{sym, refl, ◌∙◌, true≢false, arith}
 use Rattle.clock.proofs.NoEventLaws.{not_happening_none}
 use Rattle.clock.proofs.time.alarm_until.Goals as goal
 

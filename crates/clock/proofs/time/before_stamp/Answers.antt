@@ -1,4 +1,4 @@
-use Rattle.std.proofs.Common.{ap, ◌∙◌, arith, rules}
+use Rattle.std.proofs.Common.{ap, ◌∙◌, arith}
 use Rattle.definition.specs.Time.{happening}
 use Rattle.clock.proofs.NoEventLaws.{not_happening_never, not_happening_past, not_happening_ahead}
 use Rattle.clock.proofs.time.before_stamp.Goals as goal

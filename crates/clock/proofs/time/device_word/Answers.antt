@@ -1,4 +1,4 @@
-use Rattle.std.proofs.Common.{refl, rules}
+use Rattle.std.proofs.Common.{refl}
 use Rattle.definition.specs.Time.{device_word}
 use Rattle.clock.proofs.time.device_word.Goals as goal
 

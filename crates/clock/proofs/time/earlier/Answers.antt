@@ -1,12 +1,12 @@
-use Rattle.std.proofs.Common.{rules, le-leb}
+use Rattle.std.proofs.Common.{le-leb}
 use borrow.Author.Tests.{lt-leb}
 use Rattle.base.specs.Test.{if◌then◌else◌}
 use Rattle.definition.specs.Time.{earlier}
 use Rattle.clock.proofs.time.earlier.Goals as goal
 
-pub returns-then-s-t : goal.returns-then-s-t
+pub returns-then-sooner : goal.returns-then-sooner
 unfolding earlier if◌then◌else◌
-returns-then-s-t c = simp (c.in-At.is, c.in-At-other.is, le-leb _ _ c.if-s-t.true)
+returns-then-sooner c = simp (c.in-At.is, c.in-At-other.is, le-leb _ _ c.if-sooner.true)
 
 pub returns-in-Never : goal.returns-in-Never
 unfolding earlier if◌then◌else◌
@@ -16,6 +16,6 @@ pub returns-in-Never-other : goal.returns-in-Never-other
 unfolding earlier if◌then◌else◌
 returns-in-Never-other c = simp (c.in-At.is, c.in-Never-other.is)
 
-pub returns-else-s-t : goal.returns-else-s-t
+pub returns-else-sooner : goal.returns-else-sooner
 unfolding earlier if◌then◌else◌
-returns-else-s-t c = simp (c.in-At.is, c.in-At-other.is, lt-leb _ _ c.if-s-t.false)
+returns-else-sooner c = simp (c.in-At.is, c.in-At-other.is, lt-leb _ _ c.if-sooner.false)

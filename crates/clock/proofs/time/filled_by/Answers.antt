@@ -1,4 +1,3 @@
-use Rattle.std.proofs.Common.{rules}
 use Rattle.definition.specs.Time.{filled_by}
 use Rattle.clock.proofs.time.filled_by.Goals as goal
 

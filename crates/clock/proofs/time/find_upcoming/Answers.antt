@@ -1,4 +1,4 @@
-use Rattle.std.proofs.Common.{arith, rules}
+use Rattle.std.proofs.Common.{arith}
 use Rattle.clock.proofs.time.find_upcoming.Goals as goal
 
 pub returns : goal.returns

@@ -1,4 +1,4 @@
-use Rattle.std.proofs.Common.{sym, refl, ap, ◌∙◌, true≢false, arith, rules}
+use Rattle.std.proofs.Common.{sym, refl, ap, ◌∙◌, true≢false, arith}
 use Rattle.definition.specs.Time.{happening}
 use Rattle.clock.proofs.NoEventLaws.{no_event_zero, no_event_pending, no_event_by}
 use Rattle.clock.proofs.time.no_event_until.Goals as goal

@@ -1,4 +1,4 @@
-use Rattle.std.proofs.Common.{◌≡◌, ℕ, ◌+◌, ◌%◌, ◌^◌, ◌≤◌, arith, rules}
+use Rattle.std.proofs.Common.{◌≡◌, ℕ, ◌+◌, ◌%◌, ◌^◌, ◌≤◌, arith}
 use Rattle.definition.specs.Time.{pass, request}
 use Rattle.clock.proofs.UpcomingLaws.{upcoming_earliest}
 use Rattle.clock.proofs.time.pass.Goals as goal

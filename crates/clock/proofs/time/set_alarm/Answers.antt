@@ -1,4 +1,4 @@
-use Rattle.std.proofs.Common.{◌≡◌, ◌+◌, ◌%◌, ◌^◌, arith, rules, eq-eqb, ne_eqb}
+use Rattle.std.proofs.Common.{◌≡◌, ◌+◌, ◌%◌, ◌^◌, arith, eq-eqb, ne_eqb}
 use Rattle.base.specs.Test.{if◌then◌else◌}
 use Rattle.definition.specs.Time.{set_alarm}
 use Rattle.clock.proofs.time.set_alarm.Goals as goal

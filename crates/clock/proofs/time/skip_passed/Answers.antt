@@ -1,6 +1,3 @@
-use Rattle.std.proofs.Common.{◌≡◌, ◌-◌, true, length, rules}
-use Rattle.definition.specs.Calls.{timetable}
-use Rattle.clock.specs.Upcoming.{StampsPassed}
 use Rattle.clock.proofs.UpcomingLaws.{passed_next, upcoming_here, upcoming_end}
 use Rattle.clock.proofs.time.skip_passed.Goals as goal
 

@@ -1,7 +1,6 @@
-use Rattle.std.proofs.Common.{◌≡◌, ◌-◌, true, length, rules}
+use Rattle.std.proofs.Common.{◌≡◌, ◌-◌, true, length}
 use Rattle.definition.specs.Calls.{timetable}
 use Rattle.clock.specs.Upcoming.{StampsPassed}
-use Rattle.clock.proofs.UpcomingLaws.{passed_next, upcoming_here, upcoming_end}
 use Rattle.clock.proofs.time.skip_passed.Given as goal
 
 abbrev pub invariant-loop-i : goal.invariant-loop-i

@@ -1,4 +1,4 @@
-use Rattle.std.proofs.Common.{rules, le-ltb, lt-ltb}
+use Rattle.std.proofs.Common.{le-ltb, lt-ltb}
 use Rattle.base.specs.Test.{if◌then◌else◌}
 use Rattle.clock.specs.Upcoming.{stamp_at}
 use Rattle.clock.proofs.time.stamp_at.Goals as goal

@@ -1,4 +1,3 @@
-use Rattle.std.proofs.Common.{rules}
 use Rattle.clock.proofs.time.wait.Goals as goal
 
 pub returns : goal.returns

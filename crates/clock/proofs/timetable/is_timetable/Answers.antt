@@ -1,6 +1,7 @@
-use Rattle.std.proofs.Common.{◌≡◌, ◌-◌, ◌≤◌, length, drop, sym, refl, ◌∙◌, arith, rules, le-leb}
+use Rattle.std.proofs.Common.{◌≡◌, length, sym, refl, ◌∙◌, arith, le-leb}
 use lib.Seq.{drop-length}
 use borrow.Author.Tests.{lt-leb}
+use Rattle.base.specs.Limits.{most_stamps}
 use Rattle.base.proofs.Tests.{and_stop, and_then, and_last, fails, holds}
 use Rattle.definition.specs.Calls.{rising_from, timetable}
 use Rattle.definition.proofs.time.TimetableLaws.{rising_next, falling_next}
@@ -19,7 +20,7 @@ returns-then-not-follows c =
     let l = c.loop-i in
     let a = c.args in
     let e = falling_next l.last a.stamps.now l.i (omega arith) (fails c.follows.ensures c.if-not-follows.true) in
-    and_then _ refl (le-leb _ _ c.if-stamps-gt-MOST_STAMPS.false) (and_last (sym (l.invariant.1 ∙ e)))
+    and_then _ refl (le-leb (length c.args.stamps.now) most_stamps (omega arith)) (and_last (sym (l.invariant.1 ∙ e)))
 
 pub loop-i-preserved : goal.loop-i-preserved
 loop-i-preserved c =
@@ -33,4 +34,4 @@ returns c =
     let l = c.loop-i in
     let a = c.args in
     let e : l.i ≡ length a.stamps.now = omega arith in
-    and_then _ refl (le-leb _ _ c.if-stamps-gt-MOST_STAMPS.false) (and_last (sym (l.invariant.1 ∙ rw (e, drop-length))))
+    and_then _ refl (le-leb (length c.args.stamps.now) most_stamps (omega arith)) (and_last (sym (l.invariant.1 ∙ rw (e, drop-length))))

@@ -1,9 +1,5 @@
-use Rattle.std.proofs.Common.{◌≡◌, ◌-◌, ◌≤◌, length, drop, sym, refl, ◌∙◌, arith, rules, le-leb}
-use lib.Seq.{drop-length}
-use borrow.Author.Tests.{lt-leb}
-use Rattle.base.proofs.Tests.{and_stop, and_then, and_last, fails, holds}
-use Rattle.definition.specs.Calls.{rising_from, timetable}
-use Rattle.definition.proofs.time.TimetableLaws.{rising_next, falling_next}
+use Rattle.std.proofs.Common.{◌≡◌, ◌-◌, ◌≤◌, length, drop}
+use Rattle.definition.specs.Calls.{rising_from}
 use Rattle.clock.proofs.timetable.is_timetable.Given as goal
 
 abbrev pub invariant-loop-i : goal.invariant-loop-i

@@ -1,7 +1,6 @@
 use mathlib.Core.Path.{sym}
 use Rattle.base.specs.Test.{if◌then◌else◌}
 use Rattle.effect.specs.Effect.{branching}
-use borrow.Author.Rules.{rules}
 use Rattle.effect.proofs.effect.fast_branch.Goals as goal
 
 pub returns-then-zero_is_set : goal.returns-then-zero_is_set

@@ -1,4 +1,3 @@
-use borrow.Author.Rules.{rules}
 use Rattle.effect.proofs.effect.fast_compute.Goals as goal
 
 pub returns-in-Add : goal.returns-in-Add

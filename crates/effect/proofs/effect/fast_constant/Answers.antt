@@ -2,7 +2,6 @@ use mathlib.Core.Path.{sym}
 use borrow.Author.Tests.{eq-eqb, ne_eqb}
 use Rattle.base.specs.Test.{if◌then◌else◌}
 use Rattle.effect.specs.Effect.{constant}
-use borrow.Author.Rules.{rules}
 use Rattle.effect.proofs.effect.fast_constant.Goals as goal
 
 pub returns-then-s-ne0 : goal.returns-then-s-ne0

@@ -1,7 +1,6 @@
 use borrow.Author.Tests.{ne_eqb}
 use Rattle.base.specs.Test.{if◌then◌else◌}
 use Rattle.effect.specs.Effect.{fast_effect}
-use borrow.Author.Rules.{rules}
 use Rattle.effect.proofs.effect.fast_effect.Goals as goal
 
 pub returns-in-4 : goal.returns-in-4

@@ -1,7 +1,6 @@
 use borrow.Author.Tests.{eq-eqb, ne_eqb}
 use Rattle.base.specs.Test.{if◌then◌else◌}
 use Rattle.effect.specs.Effect.{grouped}
-use borrow.Author.Rules.{rules}
 use Rattle.effect.proofs.effect.fast_group.Goals as goal
 
 pub returns-then-c-eq0 : goal.returns-then-c-eq0

@@ -1,6 +1,5 @@
 use borrow.Author.Tests.{eq-eqb, ne_eqb}
 use Rattle.base.specs.Test.{if◌then◌else◌}
-use borrow.Author.Rules.{rules}
 use Rattle.effect.proofs.effect.fast_jump.Goals as goal
 
 pub returns-then-w-eq3 : goal.returns-then-w-eq3

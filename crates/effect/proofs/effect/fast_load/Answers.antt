@@ -2,7 +2,6 @@ use mathlib.Core.Path.{sym}
 use borrow.Author.Tests.{lt-ltb, le-ltb}
 use Rattle.base.specs.Test.{if◌then◌else◌}
 use Rattle.effect.specs.Effect.{loading}
-use borrow.Author.Rules.{rules}
 use Rattle.effect.proofs.effect.fast_load.Goals as goal
 
 pub returns-then-s-lt4 : goal.returns-then-s-lt4

@@ -1,7 +1,6 @@
 use borrow.Author.Tests.{ne_eqb}
 use Rattle.base.specs.Test.{if◌then◌else◌}
 use Rattle.effect.specs.Effect.{moving}
-use borrow.Author.Rules.{rules}
 use Rattle.effect.proofs.effect.fast_move.Goals as goal
 
 pub returns-in-0 : goal.returns-in-0

@@ -2,7 +2,6 @@ use mathlib.Core.Path.{sym}
 use borrow.Author.Tests.{lt-ltb, le-ltb, eq-eqb, ne_eqb}
 use Rattle.base.specs.Test.{if◌then◌else◌}
 use Rattle.effect.specs.Effect.{storing}
-use borrow.Author.Rules.{rules}
 use Rattle.effect.proofs.effect.fast_store.Goals as goal
 
 pub returns-then-d-lt4 : goal.returns-then-d-lt4

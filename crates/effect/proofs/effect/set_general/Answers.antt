@@ -1,7 +1,6 @@
 use borrow.Author.Tests.{lt-ltb, le-ltb}
 use Rattle.base.specs.Test.{if◌then◌else◌}
 use Rattle.effect.specs.Effect.{setting_register_in}
-use borrow.Author.Rules.{rules}
 use Rattle.effect.proofs.effect.set_general.Goals as goal
 
 pub returns-then-d-lt4 : goal.returns-then-d-lt4

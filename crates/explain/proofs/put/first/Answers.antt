@@ -3,7 +3,6 @@ use native.Mathlib.Omega.{arith}
 use Prim.Native.Nat.{◌≤◌}
 use lib.ListN.{length}
 use lib.Seq.{length-take-le}
-use borrow.Author.Rules.{rules}
 use Rattle.explain.proofs.put.first.Goals as goal
 
 pub slice_bounds-result-end : goal.slice_bounds-result-end

@@ -1,11 +1,7 @@
-use mathlib.Core.Path.{◌≡◌, refl, sym, ◌∙◌, ap}
+use mathlib.Core.Path.{◌≡◌}
 use Prim.Native.Nat.{◌+◌, ◌-◌, ◌≤◌}
-use native.Mathlib.Omega.{arith}
-use native.Mathlib.Nat.{add-zero}
 use lib.ListN.{length, drop}
-use lib.Seq.{sets, length-sets}
-use Rattle.transcript.proofs.TranscriptLaws.{text_put, text_end}
-use borrow.Author.Rules.{rules}
+use lib.Seq.{sets}
 use Rattle.explain.proofs.put.put_all.Given as goal
 
 abbrev pub invariant-loop-i : goal.invariant-loop-i

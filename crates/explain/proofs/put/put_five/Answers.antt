@@ -1,5 +1,4 @@
 use Rattle.explain.proofs.SentenceLaws.{wrote_then}
-use borrow.Author.Rules.{rules}
 use Rattle.explain.proofs.put.put_five.Goals as goal
 
 pub returns : goal.returns

@@ -1,5 +1,4 @@
 use Rattle.explain.proofs.SentenceLaws.{text_is_put, digits_put}
-use borrow.Author.Rules.{rules}
 use Rattle.explain.proofs.put.put_number.Goals as goal
 
 pub returns : goal.returns

@@ -1,5 +1,4 @@
 use Rattle.explain.proofs.SentenceLaws.{text_is_put, explained}
-use borrow.Author.Rules.{rules}
 use Rattle.explain.proofs.sentence.explanation.Goals as goal
 
 pub returns : goal.returns

@@ -3,7 +3,6 @@ use native.Mathlib.Omega.{arith}
 use Rattle.base.specs.Test.{if◌then◌else◌}
 use Rattle.transcript.specs.Transcript.{decimal_bytes, decimal_from}
 use Rattle.explain.specs.Sentence.{refusal_word, refusal_label}
-use borrow.Author.Rules.{rules}
 use Rattle.explain.proofs.sentence.label_of.Goals as goal
 
 pub returns-in-Map : goal.returns-in-Map

@@ -1,7 +1,6 @@
 use mathlib.Core.Path.{sym}
 use native.Mathlib.Omega.{arith}
 use Rattle.explain.proofs.SentenceLaws.{text_is_put, front_length, refusal_put}
-use borrow.Author.Rules.{rules}
 use Rattle.explain.proofs.sentence.put_refusal.Goals as goal
 
 pub slice_bounds-put_all-end : goal.slice_bounds-put_all-end

@@ -1,11 +1,9 @@
 use mathlib.Core.Bool.{true}
 use mathlib.Core.Path.{sym, ◌∙◌}
-use Prim.Native.Nat.{◌-◌}
 use native.Mathlib.Omega.{arith}
-use borrow.Author.Rules.{rules}
 use Rattle.base.proofs.Tests.{holds}
 use Rattle.fast.specs.Steps.{fast_state, no_step}
-use Rattle.fast.proofs.FastSteps.{FastLoop, effect_few, fast_loop_next}
+use Rattle.fast.proofs.FastSteps.{effect_few, fast_loop_next}
 use Rattle.fast.proofs.steps.fast_loop.Goals as goal
 
 pub loop-steps-init : goal.loop-steps-init

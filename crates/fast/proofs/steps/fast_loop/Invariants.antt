@@ -1,11 +1,6 @@
-use mathlib.Core.Bool.{true}
-use mathlib.Core.Path.{sym, ◌∙◌}
 use Prim.Native.Nat.{◌-◌}
-use native.Mathlib.Omega.{arith}
-use borrow.Author.Rules.{rules}
-use Rattle.base.proofs.Tests.{holds}
-use Rattle.fast.specs.Steps.{fast_state, no_step}
-use Rattle.fast.proofs.FastSteps.{FastLoop, effect_few, fast_loop_next}
+use Rattle.fast.specs.Steps.{fast_state}
+use Rattle.fast.proofs.FastSteps.{FastLoop}
 use Rattle.fast.proofs.steps.fast_loop.Given as goal
 
 abbrev pub invariant-loop-steps : goal.invariant-loop-steps

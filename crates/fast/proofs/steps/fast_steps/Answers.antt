@@ -1,5 +1,4 @@
 use native.Mathlib.Omega.{arith}
-use borrow.Author.Rules.{rules}
 use Rattle.fast.specs.Steps.{no_step}
 use Rattle.fast.proofs.steps.fast_steps.Goals as goal
 

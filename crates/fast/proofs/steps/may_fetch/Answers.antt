@@ -1,7 +1,6 @@
 use mathlib.Core.Path.{sym}
 use Rattle.base.specs.Test.{if◌then◌else◌}
 use Rattle.fast.specs.Steps.{fetchable}
-use borrow.Author.Rules.{rules}
 use Rattle.fast.proofs.steps.may_fetch.Goals as goal
 
 pub returns-then-not-may : goal.returns-then-not-may

@@ -1,6 +1,5 @@
 use Rattle.base.specs.Test.{if◌then◌else◌}
 use Rattle.effect.specs.Effect.{put_if}
-use borrow.Author.Rules.{rules}
 use Rattle.fast.proofs.steps.put_if.Goals as goal
 
 pub returns-then-puts : goal.returns-then-puts

@@ -1,6 +1,5 @@
 use mathlib.Core.Path.{sym, ◌∙◌}
 use Rattle.inplace.proofs.InPlaceLaws.{saved_held, saved_unheld}
-use borrow.Author.Rules.{rules}
 use Rattle.inplace.proofs.in_place.clear_unheld.Goals as goal
 
 pub returns-then-is_held : goal.returns-then-is_held

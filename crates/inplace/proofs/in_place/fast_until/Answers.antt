@@ -2,7 +2,6 @@ use mathlib.Core.Path.{subst}
 use mathlib.Core.Bool.{Bool, not}
 use Rattle.definition.specs.Setting.{setting_of}
 use Rattle.clock.specs.NoEvent.{NoEventUntil}
-use borrow.Author.Rules.{rules}
 use Rattle.inplace.proofs.in_place.fast_until.Goals as goal
 
 pub returns : goal.returns

@@ -1,6 +1,5 @@
 use native.Mathlib.Omega.{arith}
 use Rattle.definition.specs.Interrupt.{age_of}
-use borrow.Author.Rules.{rules}
 use Rattle.interrupt.proofs.service.age_of.Goals as goal
 
 pub returns-then-clock-stamp : goal.returns-then-clock-stamp

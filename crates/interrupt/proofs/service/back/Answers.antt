@@ -1,5 +1,4 @@
 use Rattle.definition.specs.Interrupt.{back}
-use borrow.Author.Rules.{rules}
 use Rattle.interrupt.proofs.service.back.Goals as goal
 
 pub returns : goal.returns

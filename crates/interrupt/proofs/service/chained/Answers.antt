@@ -1,6 +1,5 @@
 use Rattle.definition.specs.Interrupt.{chained}
 use Rattle.definition.specs.Time.{emptied}
-use borrow.Author.Rules.{rules}
 use Rattle.interrupt.proofs.service.chained.Goals as goal
 
 pub returns : goal.returns

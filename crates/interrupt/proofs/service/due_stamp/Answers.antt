@@ -1,7 +1,6 @@
 use mathlib.Core.Path.{sym}
 use Rattle.base.specs.Test.{if◌then◌else◌}
 use Rattle.definition.specs.Interrupt.{due}
-use borrow.Author.Rules.{rules}
 use Rattle.interrupt.proofs.service.due_stamp.Goals as goal
 
 pub returns-then-gie_is_set : goal.returns-then-gie_is_set

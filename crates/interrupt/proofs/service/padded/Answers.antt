@@ -2,7 +2,6 @@ use Rattle.definition.specs.Interrupt.{padded}
 use native.Mathlib.Omega.{arith}
 use Rattle.definition.specs.Time.{pass, emptied}
 use Rattle.clock.proofs.UpcomingLaws.{can_pass_later}
-use borrow.Author.Rules.{rules}
 use Rattle.interrupt.proofs.service.padded.Goals as goal
 
 pub returns : goal.returns

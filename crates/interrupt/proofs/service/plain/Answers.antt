@@ -4,7 +4,6 @@ use Rattle.base.proofs.Tests.{fails, holds}
 use Rattle.definition.specs.Time.{emptied}
 use Rattle.definition.specs.Interrupt.{reset, plain}
 use Rattle.clock.proofs.UpcomingLaws.{can_pass_later}
-use borrow.Author.Rules.{rules}
 use Rattle.interrupt.proofs.service.plain.Goals as goal
 
 pub returns-then-not-both : goal.returns-then-not-both

@@ -1,4 +1,3 @@
-use borrow.Author.Rules.{rules}
 use Rattle.interrupt.proofs.service.pushed_registers.Goals as goal
 
 pub returns : goal.returns

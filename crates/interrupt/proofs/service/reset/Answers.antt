@@ -1,5 +1,4 @@
 use Rattle.definition.specs.Interrupt.{reset}
-use borrow.Author.Rules.{rules}
 use Rattle.interrupt.proofs.service.reset.Goals as goal
 
 pub returns : goal.returns

@@ -1,5 +1,4 @@
 use Rattle.definition.specs.State.{reset_address}
-use borrow.Author.Rules.{rules}
 use Rattle.interrupt.proofs.service.reset_address.Goals as goal
 
 pub returns : goal.returns

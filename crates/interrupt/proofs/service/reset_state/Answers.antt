@@ -1,4 +1,3 @@
-use borrow.Author.Rules.{rules}
 use Rattle.interrupt.proofs.service.reset_state.Goals as goal
 
 pub returns : goal.returns

@@ -5,7 +5,6 @@ use Rattle.interrupt.specs.StepResult.{step_result}
 use Rattle.definition.specs.Interrupt.{interrupted, back}
 use Rattle.clock.proofs.UpcomingLaws.{can_pass_later}
 use Rattle.interrupt.proofs.Yields.{resumed_chains, resumed_back}
-use borrow.Author.Rules.{rules}
 use Rattle.interrupt.proofs.service.resume.Goals as goal
 
 pub returns-in-At : goal.returns-in-At

@@ -1,7 +1,6 @@
 use Rattle.definition.specs.Interrupt.{padded, interrupted}
 use native.Mathlib.Omega.{arith}
 use Rattle.clock.proofs.UpcomingLaws.{can_pass_later}
-use borrow.Author.Rules.{rules}
 use Rattle.interrupt.proofs.service.serve.Goals as goal
 
 pub returns-then-inside : goal.returns-then-inside

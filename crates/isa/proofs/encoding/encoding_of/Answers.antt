@@ -1,5 +1,4 @@
 use mathlib.Core.Path.{◌∙◌}
-use borrow.Author.Rules.{rules}
 use Rattle.isa.proofs.encoding.encoding_of.Goals as goal
 
 pub returns-in-Hlt : goal.returns-in-Hlt

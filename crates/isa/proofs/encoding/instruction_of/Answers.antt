@@ -1,4 +1,3 @@
-use borrow.Author.Rules.{rules}
 use Rattle.isa.proofs.encoding.instruction_of.Goals as goal
 
 pub returns-in-In : goal.returns-in-In

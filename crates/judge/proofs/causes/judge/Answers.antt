@@ -1,7 +1,6 @@
 use mathlib.Core.Path.{sym}
 use Rattle.base.specs.Test.{if◌then◌else◌}
 use Rattle.definition.specs.Judge.{judge}
-use borrow.Author.Rules.{rules}
 use Rattle.judge.proofs.causes.judge.Goals as goal
 
 pub returns-then-not-may : goal.returns-then-not-may

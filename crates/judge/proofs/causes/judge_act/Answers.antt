@@ -1,7 +1,6 @@
 use mathlib.Core.Path.{sym}
 use Rattle.base.specs.Test.{if◌then◌else◌}
 use Rattle.definition.specs.Judge.{judge_act}
-use borrow.Author.Rules.{rules}
 use Rattle.judge.proofs.causes.judge_act.Goals as goal
 
 pub returns-then-both : goal.returns-then-both

@@ -2,7 +2,6 @@ use mathlib.Core.Path.{sym, ◌∙◌}
 use Rattle.base.specs.Test.{if◌then◌else◌}
 use Rattle.definition.specs.Judge.{judge_first}
 use Rattle.definition.proofs.cause.JudgeLaws.{first_found}
-use borrow.Author.Rules.{rules}
 use Rattle.judge.proofs.causes.judge_first.Goals as goal
 
 pub returns-in-Nothing : goal.returns-in-Nothing

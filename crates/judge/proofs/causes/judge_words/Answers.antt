@@ -1,7 +1,6 @@
 use mathlib.Core.Path.{sym}
 use Rattle.base.specs.Test.{if◌then◌else◌}
 use Rattle.definition.specs.Judge.{judge_words}
-use borrow.Author.Rules.{rules}
 use Rattle.judge.proofs.causes.judge_words.Goals as goal
 
 pub returns-in-Refused : goal.returns-in-Refused

@@ -1,6 +1,5 @@
 use mathlib.Core.Path.{sym}
 use Rattle.base.specs.Test.{if◌then◌else◌}
-use borrow.Author.Rules.{rules}
 use Rattle.judge.proofs.causes.second_word.Goals as goal
 
 pub returns-then-two_words : goal.returns-then-two_words

@@ -1,7 +1,6 @@
 use mathlib.Core.Path.{sym}
 use Rattle.base.specs.Test.{if◌then◌else◌}
 use Rattle.definition.specs.Judge.{all_may}
-use borrow.Author.Rules.{rules}
 use Rattle.judge.proofs.causes.stack_may.Goals as goal
 
 pub returns-then-may : goal.returns-then-may

@@ -1,7 +1,6 @@
 use mathlib.Core.Path.{sym}
 use Rattle.base.proofs.Tests.{if_id}
 use Rattle.definition.specs.Judge.{all_may}
-use borrow.Author.Rules.{rules}
 use Rattle.judge.proofs.causes.word_may.Goals as goal
 
 pub returns : goal.returns

@@ -1,7 +1,6 @@
 use mathlib.Core.Path.{sym}
 use Rattle.base.specs.Test.{if◌then◌else◌}
 use Rattle.definition.specs.Judge.{all_may}
-use borrow.Author.Rules.{rules}
 use Rattle.judge.proofs.causes.writes_may.Goals as goal
 
 pub returns-in-Hlt : goal.returns-in-Hlt

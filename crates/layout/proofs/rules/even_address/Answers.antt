@@ -1,5 +1,4 @@
 use mathlib.Core.Path.{refl}
-use borrow.Author.Rules.{rules}
 use borrow.Author.Tests.{lt-ltb}
 use Rattle.base.proofs.Tests.{and_then, and_last}
 use Rattle.layout.specs.Rules.{even_address}

@@ -1,9 +1,8 @@
-use mathlib.Core.Path.{refl, sym, ◌∙◌, ap}
+use mathlib.Core.Path.{sym, ◌∙◌, ap}
 use Rattle.definition.specs.Answers.{run_refusal, run_end, run_steps}
 use Rattle.lentstate.specs.State.{numbers}
 use Rattle.lentstate.proofs.LentLaws.{lent_machine, lent_numbers}
 use Rattle.lentcalls.proofs.CallLaws.{lent_untouched, run_by, call_refused, call_taken}
-use borrow.Author.Rules.{rules}
 use Rattle.lentcalls.proofs.calls.run_lent.Goals as goal
 
 pub returns-in-Refused : goal.returns-in-Refused

@@ -1,6 +1,5 @@
 use Rattle.lentstate.specs.State.{numbers}
 use Rattle.lentcalls.proofs.CallLaws.{start_refused, start_taken}
-use borrow.Author.Rules.{rules}
 use Rattle.lentcalls.proofs.calls.start_lent.Goals as goal
 
 pub returns-in-Refused : goal.returns-in-Refused

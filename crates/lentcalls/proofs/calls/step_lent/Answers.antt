@@ -3,7 +3,6 @@ use Rattle.definition.specs.Answers.{step_refusal, step_kind, step_cause}
 use Rattle.lentstate.specs.State.{numbers}
 use Rattle.lentstate.proofs.LentLaws.{lent_machine, lent_numbers}
 use Rattle.lentcalls.proofs.CallLaws.{lent_untouched, step_by, call_refused, call_taken}
-use borrow.Author.Rules.{rules}
 use Rattle.lentcalls.proofs.calls.step_lent.Goals as goal
 
 pub returns-in-Refused : goal.returns-in-Refused

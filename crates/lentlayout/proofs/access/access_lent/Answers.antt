@@ -7,7 +7,6 @@ use Rattle.layout.specs.Rules.{accepted}
 use Rattle.lentlayout.specs.Access.{rights_of}
 use Rattle.lentlayout.proofs.AccessLaws.{access_taken, access_refused}
 use Rattle.base.proofs.KeptLaws.{kept, given}
-use borrow.Author.Rules.{rules}
 use Rattle.lentlayout.proofs.access.access_lent.Goals as goal
 
 pub returns-then-not-accepted : goal.returns-then-not-accepted

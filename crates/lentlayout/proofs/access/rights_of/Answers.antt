@@ -1,5 +1,4 @@
 use Rattle.lentlayout.specs.Access.{rights_of}
-use borrow.Author.Rules.{rules}
 use Rattle.lentlayout.proofs.access.rights_of.Goals as goal
 
 pub returns : goal.returns

@@ -2,7 +2,6 @@ use mathlib.Core.Path.{sym, ◌∙◌}
 use native.Mathlib.Omega.{arith}
 use Rattle.base.proofs.Tests.{if_true, if_false}
 use Rattle.lentlayout.specs.Access.{weight_if}
-use borrow.Author.Rules.{rules}
 use Rattle.lentlayout.proofs.access.weight_of.Goals as goal
 
 pub returns-then-may : goal.returns-then-may

@@ -1,7 +1,6 @@
 use mathlib.Core.Path.{sym, ◌∙◌, ap}
 use Rattle.layout.specs.Rules.{layout_fault}
 use Rattle.lentlayout.specs.Fault.{fault_number}
-use borrow.Author.Rules.{rules}
 use Rattle.lentlayout.proofs.fault.fault_lent.Goals as goal
 
 pub returns-in-Unbroken : goal.returns-in-Unbroken

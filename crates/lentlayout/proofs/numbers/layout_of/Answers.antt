@@ -1,6 +1,5 @@
 use mathlib.Core.Path.{refl}
 use Rattle.lentlayout.specs.Layout.{layout_of}
-use borrow.Author.Rules.{rules}
 use Rattle.lentlayout.proofs.numbers.layout_of.Goals as goal
 
 pub returns : goal.returns

@@ -1,7 +1,6 @@
 use Rattle.lentstate.specs.State.{numbers}
 use Rattle.lentpages.specs.Page.{page_room}
 use Rattle.lentpages.proofs.PageLaws.{page_refused, page_taken}
-use borrow.Author.Rules.{rules}
 use Rattle.lentpages.proofs.page.transcribe_lent.Goals as goal
 
 pub returns-in-Refused : goal.returns-in-Refused

@@ -2,7 +2,6 @@ use mathlib.Core.Path.{refl, sym, ◌∙◌, ap}
 use Rattle.sheet.specs.Sheet.{refused_line, sheet_refusal}
 use Rattle.lentpages.specs.Setup.{set_layout, set_count, set_budget}
 use Rattle.base.proofs.KeptLaws.{kept, given}
-use borrow.Author.Rules.{rules}
 use Rattle.lentpages.proofs.setup.read_sheet_lent.Goals as goal
 
 pub returns-in-Refused : goal.returns-in-Refused

@@ -2,7 +2,6 @@ use mathlib.Core.Path.{sym, ◌∙◌}
 use borrow.Author.Tests.{eq-eqb, ne_eqb}
 use Rattle.base.specs.Test.{if◌then◌else◌}
 use Rattle.lentstate.specs.State.{context_of}
-use borrow.Author.Rules.{rules}
 use Rattle.lentstate.proofs.state.context_of.Goals as goal
 
 pub returns-then-has_odd_flag : goal.returns-then-has_odd_flag

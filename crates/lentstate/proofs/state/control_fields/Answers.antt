@@ -1,4 +1,3 @@
-use borrow.Author.Rules.{rules}
 use Rattle.lentstate.proofs.state.control_fields.Goals as goal
 
 pub returns-in-Unheld : goal.returns-in-Unheld

@@ -3,7 +3,6 @@ use Rattle.storage.specs.declared.control.Control.{Control}
 use Rattle.storage.specs.Control.{with_registers}
 use Rattle.lentstate.specs.State.{numbers_of}
 use Rattle.lentstate.proofs.LentLaws.{lent_numbers}
-use borrow.Author.Rules.{rules}
 use Rattle.lentstate.proofs.state.hand_back.Goals as goal
 
 pub returns : goal.returns

@@ -2,7 +2,6 @@ use borrow.Author.Tests.{lt-ltb, le-ltb}
 use Rattle.base.specs.Test.{any}
 use Rattle.base.proofs.Tests.{if_true, if_false, if_id}
 use Rattle.lentstate.specs.State.{odd_flag}
-use borrow.Author.Rules.{rules}
 use Rattle.lentstate.proofs.state.has_odd_flag.Goals as goal
 
 pub returns-then-fields-gt1 : goal.returns-then-fields-gt1

@@ -1,6 +1,5 @@
 use mathlib.Core.Path.{◌∙◌}
 use Rattle.lentstate.proofs.LentLaws.{lent_machine}
-use borrow.Author.Rules.{rules}
 use Rattle.lentstate.proofs.state.machine_of.Goals as goal
 
 pub returns : goal.returns

@@ -1,5 +1,4 @@
 use Rattle.lentstate.specs.State.{time_fields}
-use borrow.Author.Rules.{rules}
 use Rattle.lentstate.proofs.state.time_fields.Goals as goal
 
 pub returns : goal.returns

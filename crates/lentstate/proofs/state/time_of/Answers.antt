@@ -1,5 +1,4 @@
 use Rattle.lentstate.specs.State.{time_of}
-use borrow.Author.Rules.{rules}
 use Rattle.lentstate.proofs.state.time_of.Goals as goal
 
 pub returns : goal.returns

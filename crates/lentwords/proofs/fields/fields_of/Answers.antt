@@ -1,5 +1,4 @@
 use Rattle.lentwords.specs.Fields.{fields_of}
-use borrow.Author.Rules.{rules}
 use Rattle.lentwords.proofs.fields.fields_of.Goals as goal
 
 pub returns : goal.returns

@@ -1,7 +1,7 @@
+use native.Mathlib.Omega.{arith}
 use borrow.Author.Tests.{lt-ltb, le-ltb}
 use Rattle.base.specs.Test.{if◌then◌else◌}
 use Rattle.lentwords.specs.Fields.{row_at}
-use borrow.Author.Rules.{rules}
 use Rattle.lentwords.proofs.fields.row_at.Goals as goal
 
 pub returns-then-i-lt16 : goal.returns-then-i-lt16
@@ -10,4 +10,4 @@ returns-then-i-lt16 c = simp (lt-ltb _ _ c.if-i-lt16.true)
 
 pub returns : goal.returns
 unfolding row_at if◌then◌else◌
-returns c = simp (le-ltb _ _ c.if-i-lt16.false)
+returns c = simp (le-ltb c.args.n 16 (omega arith))

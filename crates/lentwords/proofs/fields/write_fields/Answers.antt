@@ -1,6 +1,5 @@
 use mathlib.Core.Path.{sym, ◌∙◌}
 use Rattle.lentwords.specs.Fields.{writing_of}
-use borrow.Author.Rules.{rules}
 use Rattle.lentwords.proofs.fields.write_fields.Goals as goal
 
 pub returns-in-Absent : goal.returns-in-Absent

@@ -2,7 +2,6 @@ use mathlib.Core.Path.{sym, ◌∙◌, ap}
 use Rattle.isa.specs.Words.{reading_refusal}
 use Rattle.lentwords.specs.Instruction.{read_fields, read_length}
 use Rattle.base.proofs.KeptLaws.{kept, given}
-use borrow.Author.Rules.{rules}
 use Rattle.lentwords.proofs.instruction.read_lent.Goals as goal
 
 pub returns-in-Refused : goal.returns-in-Refused

@@ -3,7 +3,6 @@ use Rattle.rows.specs.Words.{writing_refusal}
 use Rattle.lentwords.specs.Instruction.{written_first, written_second, written_length}
 use Rattle.rows.specs.declared.write.Writing.{Writing}
 use Rattle.base.proofs.KeptLaws.{kept, given}
-use borrow.Author.Rules.{rules}
 use Rattle.lentwords.proofs.instruction.write_lent.Goals as goal
 
 pub returns-in-Refused : goal.returns-in-Refused

@@ -1,6 +1,5 @@
 use mathlib.Core.Path.{sym, ◌∙◌}
 use Rattle.lines.specs.Line.{budget_line}
-use borrow.Author.Rules.{rules}
 use Rattle.lines.proofs.line.budget_line.Goals as goal
 
 pub returns-in_default : goal.returns-in_default

@@ -1,6 +1,5 @@
 use mathlib.Core.Path.{sym, ◌∙◌}
 use Rattle.lines.specs.Line.{stamp_line}
-use borrow.Author.Rules.{rules}
 use Rattle.lines.proofs.line.stamp_line.Goals as goal
 
 pub returns-in_default : goal.returns-in_default

@@ -1,7 +1,6 @@
 use mathlib.Core.Path.{sym, ◌∙◌}
 use Rattle.base.specs.Test.{if◌then◌else◌}
 use Rattle.lines.specs.Line.{word_line}
-use borrow.Author.Rules.{rules}
 use Rattle.lines.proofs.line.word_line.Goals as goal
 
 pub returns-in_default : goal.returns-in_default

@@ -1,4 +1,3 @@
-use borrow.Author.Rules.{rules}
 use Rattle.loader.proofs.load.append_line.Goals as goal
 
 pub returns-in-Stamp : goal.returns-in-Stamp

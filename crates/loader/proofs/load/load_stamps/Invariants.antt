@@ -1,14 +1,8 @@
-use mathlib.Core.Path.{◌≡◌, refl, sym, ◌∙◌, ap}
-use Prim.Native.Nat.{◌+◌, ◌≤◌, ◌<◌}
-use native.Mathlib.Omega.{arith}
+use mathlib.Core.Path.{◌≡◌}
+use Prim.Native.Nat.{◌+◌, ◌≤◌}
 use lib.ListN.{length}
-use lib.Seq.{sets, length-sets}
-use Rattle.text.specs.Text.{newline, head, rest}
-use Rattle.lines.specs.Line.{parse_line}
-use Rattle.text.proofs.Finding.{rest_less}
-use Rattle.loader.specs.Setup.{pieces, stamps_from, sheet_stamps}
-use Rattle.loader.proofs.SetupLaws.{stamps_next, stamps_end, stamp_sets}
-use borrow.Author.Rules.{rules}
+use lib.Seq.{sets}
+use Rattle.loader.specs.Setup.{pieces, stamps_from}
 use Rattle.loader.proofs.load.load_stamps.Given as goal
 
 abbrev pub invariant-loop-left : goal.invariant-loop-left

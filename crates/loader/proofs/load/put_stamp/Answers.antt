@@ -1,6 +1,5 @@
 use mathlib.Core.Path.{sym}
 use lib.Seq.{set_out}
-use borrow.Author.Rules.{rules}
 use Rattle.loader.proofs.load.put_stamp.Goals as goal
 
 pub returns-else-i-stamps : goal.returns-else-i-stamps

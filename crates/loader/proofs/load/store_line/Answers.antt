@@ -1,4 +1,3 @@
-use borrow.Author.Rules.{rules}
 use Rattle.loader.proofs.load.store_line.Goals as goal
 
 pub returns-in-Word : goal.returns-in-Word

@@ -1,10 +1,7 @@
-use mathlib.Core.Path.{◌≡◌, refl, sym, ◌∙◌}
-use lib.ListN.{length}
+use mathlib.Core.Path.{refl, sym, ◌∙◌}
 use Rattle.text.specs.Text.{newline}
 use Rattle.text.proofs.Finding.{rest_less}
-use Rattle.loader.specs.Setup.{pieces, memory_from}
 use Rattle.loader.proofs.SetupLaws.{memory_next, memory_end}
-use borrow.Author.Rules.{rules}
 use Rattle.loader.proofs.load.store_lines.Goals as goal
 
 pub loop-left-init : goal.loop-left-init

@@ -1,10 +1,6 @@
-use mathlib.Core.Path.{◌≡◌, refl, sym, ◌∙◌}
+use mathlib.Core.Path.{◌≡◌}
 use lib.ListN.{length}
-use Rattle.text.specs.Text.{newline}
-use Rattle.text.proofs.Finding.{rest_less}
 use Rattle.loader.specs.Setup.{pieces, memory_from}
-use Rattle.loader.proofs.SetupLaws.{memory_next, memory_end}
-use borrow.Author.Rules.{rules}
 use Rattle.loader.proofs.load.store_lines.Given as goal
 
 abbrev pub invariant-loop-left : goal.invariant-loop-left

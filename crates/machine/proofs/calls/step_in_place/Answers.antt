@@ -2,7 +2,6 @@ use Rattle.definition.specs.Setting.{setting_of}
 use Rattle.definition.specs.State.{world}
 use Rattle.storage.specs.Control.{with_registers}
 use Rattle.machine.proofs.AnswerLaws.{step_refused, step_taken}
-use borrow.Author.Rules.{rules}
 use Rattle.machine.proofs.calls.step_in_place.Goals as goal
 
 pub returns-in-Refused : goal.returns-in-Refused

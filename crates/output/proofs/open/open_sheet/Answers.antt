@@ -6,7 +6,6 @@ use borrow.Author.Tests.{eq-eqb}
 use Rattle.transcribe.specs.declared.progress.Transcript.{Transcript}
 use Rattle.output.specs.Open.{OpenPromise}
 use Rattle.output.proofs.OpenLaws.{opened_refused, opened_read}
-use borrow.Author.Rules.{rules}
 use Rattle.output.proofs.open.open_sheet.Goals as goal
 
 pub returns-in-Refused : goal.returns-in-Refused

@@ -1,6 +1,5 @@
 use mathlib.Core.Path.{refl}
 use Rattle.output.proofs.OpenLaws.{started}
-use borrow.Author.Rules.{rules}
 use Rattle.output.proofs.open.unwritten.Goals as goal
 
 pub returns : goal.returns

@@ -1,6 +1,4 @@
 use Prim.Native.Nat.{suc, ◌-◌, ◌≤◌}
-use native.Mathlib.Omega.{arith}
-use borrow.Author.Rules.{rules}
 use Rattle.reasons.proofs.timetable.stamps_before.Given as goal
 
 abbrev pub invariant-loop-n : goal.invariant-loop-n

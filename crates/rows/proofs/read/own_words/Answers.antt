@@ -1,7 +1,6 @@
 use Rattle.base.specs.Test.{if◌then◌else◌}
 use Rattle.rows.specs.internal.Dispatch.{own_words}
 use borrow.Author.Tests.{ne_eqb}
-use borrow.Author.Rules.{rules}
 use Rattle.rows.proofs.read.own_words.Goals as goal
 
 pub returns-in-0 : goal.returns-in-0

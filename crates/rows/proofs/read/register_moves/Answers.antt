@@ -1,7 +1,6 @@
 use Rattle.base.specs.Test.{if◌then◌else◌}
 use Rattle.rows.specs.internal.Dispatch.{register_moves}
 use borrow.Author.Tests.{ne_eqb}
-use borrow.Author.Rules.{rules}
 use Rattle.rows.proofs.read.register_moves.Goals as goal
 
 pub returns-in-0 : goal.returns-in-0

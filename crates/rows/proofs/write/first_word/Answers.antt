@@ -1,6 +1,5 @@
 use native.Mathlib.Omega.{arith}
 use Rattle.rows.specs.Table.{first_word}
-use borrow.Author.Rules.{rules}
 use Rattle.rows.proofs.write.first_word.Goals as goal
 
 pub returns-in-Hlt : goal.returns-in-Hlt

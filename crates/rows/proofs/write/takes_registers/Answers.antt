@@ -1,4 +1,3 @@
-use borrow.Author.Rules.{rules}
 use Rattle.rows.proofs.write.takes_registers.Goals as goal
 
 pub returns-in-Mov : goal.returns-in-Mov

@@ -1,4 +1,4 @@
-use Rattle.std.proofs.Common.{◌≡◌, ◌-◌, ◌≤◌, length, rules}
+use Rattle.std.proofs.Common.{◌≡◌, ◌-◌, ◌≤◌, length}
 use Rattle.script.proofs.memory.put_words.Given as goal
 
 abbrev pub invariant-loop-i : goal.invariant-loop-i

@@ -1,4 +1,4 @@
-use Rattle.std.proofs.Common.{◌-◌, ◌≤◌, rules}
+use Rattle.std.proofs.Common.{◌-◌, ◌≤◌}
 use Rattle.script.proofs.rules.others_fit.Given as goal
 
 abbrev pub invariant-loop-i : goal.invariant-loop-i

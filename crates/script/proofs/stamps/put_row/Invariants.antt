@@ -1,4 +1,4 @@
-use Rattle.std.proofs.Common.{◌≡◌, length, rules}
+use Rattle.std.proofs.Common.{◌≡◌, length}
 use Rattle.script.proofs.stamps.put_row.Given as goal
 
 abbrev pub invariant-loop-left : goal.invariant-loop-left

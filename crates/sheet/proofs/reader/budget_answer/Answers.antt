@@ -1,7 +1,6 @@
 use borrow.Author.Tests.{le-leb, lt-leb}
 use Rattle.base.specs.Test.{if◌then◌else◌}
 use Rattle.sheet.specs.Sheet.{budget_answer}
-use borrow.Author.Rules.{rules}
 use Rattle.sheet.proofs.reader.budget_answer.Goals as goal
 
 pub returns-then-budget-gt-MOST_BUDGET : goal.returns-then-budget-gt-MOST_BUDGET

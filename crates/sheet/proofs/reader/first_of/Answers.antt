@@ -1,4 +1,3 @@
-use borrow.Author.Rules.{rules}
 use Rattle.sheet.proofs.reader.first_of.Goals as goal
 
 pub returns-in-Layout : goal.returns-in-Layout

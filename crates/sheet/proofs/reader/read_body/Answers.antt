@@ -1,12 +1,7 @@
-use mathlib.Core.Path.{◌≡◌, refl, sym, ◌∙◌}
-use Prim.Native.Nat.{◌≤◌, ◌+◌}
+use mathlib.Core.Path.{refl, sym, ◌∙◌}
 use native.Mathlib.Omega.{arith}
-use lib.ListN.{length}
 use borrow.Author.Tests.{ltb-true, ltb-false}
-use Rattle.loader.specs.Setup.{pieces}
-use Rattle.sheet.specs.Sheet.{body_from}
 use Rattle.sheet.proofs.SheetLaws.{rest_shorter, body_last, body_unreadable, body_stops, body_goes}
-use borrow.Author.Rules.{rules}
 use Rattle.sheet.proofs.reader.read_body.Goals as goal
 
 pub loop-left-init : goal.loop-left-init

@@ -1,12 +1,8 @@
-use mathlib.Core.Path.{◌≡◌, refl, sym, ◌∙◌}
+use mathlib.Core.Path.{◌≡◌}
 use Prim.Native.Nat.{◌≤◌, ◌+◌}
-use native.Mathlib.Omega.{arith}
 use lib.ListN.{length}
-use borrow.Author.Tests.{ltb-true, ltb-false}
 use Rattle.loader.specs.Setup.{pieces}
 use Rattle.sheet.specs.Sheet.{body_from}
-use Rattle.sheet.proofs.SheetLaws.{rest_shorter, body_last, body_unreadable, body_stops, body_goes}
-use borrow.Author.Rules.{rules}
 use Rattle.sheet.proofs.reader.read_body.Given as goal
 
 abbrev pub invariant-loop-left : goal.invariant-loop-left

@@ -5,7 +5,6 @@ use Rattle.base.specs.Test.{if◌then◌else◌}
 use Rattle.base.proofs.Tests.{fails, holds}
 use Rattle.sheet.specs.Sheet.{sheet_answer}
 use Rattle.sheet.proofs.SheetLaws.{rest_shorter, first_last, first_here, sheet_lines, sheet_promised}
-use borrow.Author.Rules.{rules}
 use Rattle.sheet.proofs.reader.read_sheet.Goals as goal
 
 pub returns-then-sheet-gt-MOST_SHEET_BYTES : goal.returns-then-sheet-gt-MOST_SHEET_BYTES

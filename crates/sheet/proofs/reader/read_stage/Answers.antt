@@ -1,5 +1,4 @@
 use Rattle.sheet.specs.Sheet.{stage_of}
-use borrow.Author.Rules.{rules}
 use Rattle.sheet.proofs.reader.read_stage.Goals as goal
 
 pub returns-in-Layout : goal.returns-in-Layout

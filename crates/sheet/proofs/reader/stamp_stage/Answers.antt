@@ -7,7 +7,6 @@ use Rattle.base.specs.Test.{if◌then◌else◌}
 use Rattle.base.proofs.Tests.{each}
 use Rattle.base.specs.Limits.{last_clock, most_stamps}
 use Rattle.sheet.specs.Sheet.{fits_timetable}
-use borrow.Author.Rules.{rules}
 use Rattle.sheet.proofs.reader.stamp_stage.Goals as goal
 
 pub overflow_add-result : goal.overflow_add-result

@@ -1,4 +1,3 @@
-use borrow.Author.Rules.{rules}
 use Rattle.sheet.proofs.reader.stopped.Goals as goal
 
 pub returns-in-Goes : goal.returns-in-Goes

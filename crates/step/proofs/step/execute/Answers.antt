@@ -4,7 +4,6 @@ use Rattle.definition.specs.Time.{pass}
 use Rattle.definition.specs.Step.{executed}
 use Rattle.definition.proofs.instruction.InstructionLaws.{cycles_range}
 use Rattle.clock.proofs.UpcomingLaws.{can_pass_later}
-use borrow.Author.Rules.{rules}
 use Rattle.step.proofs.step.execute.Goals as goal
 
 pub returns : goal.returns

@@ -5,7 +5,6 @@ use Rattle.definition.proofs.instruction.InstructionLaws.{cycles_range}
 use Rattle.clock.proofs.UpcomingLaws.{can_pass_later}
 use Rattle.interrupt.proofs.Yields.{yields, return_yields}
 use Rattle.step.proofs.StepYields.{performed_unheld, performed_returns, performed_other}
-use borrow.Author.Rules.{rules}
 use Rattle.step.proofs.step.perform.Goals as goal
 
 pub returns-then-is_reti : goal.returns-then-is_reti

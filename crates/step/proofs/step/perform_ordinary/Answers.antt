@@ -9,7 +9,6 @@ use Rattle.clock.proofs.UpcomingLaws.{can_pass_later}
 use Rattle.definition.proofs.step.StepLaws.{next_clock}
 use Rattle.interrupt.proofs.Yields.{yields}
 use Rattle.step.proofs.StepYields.{ordinary_halts, ordinary_serves}
-use borrow.Author.Rules.{rules}
 use Rattle.step.proofs.step.perform_ordinary.Goals as goal
 
 pub returns-then-next : goal.returns-then-next

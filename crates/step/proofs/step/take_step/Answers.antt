@@ -7,7 +7,6 @@ use Rattle.clock.proofs.UpcomingLaws.{can_pass_later}
 use Rattle.definition.proofs.step.StepLaws.{step_faulty, step_acts}
 use Rattle.interrupt.proofs.Yields.{yields}
 use Rattle.step.proofs.StepYields.{judged_by}
-use borrow.Author.Rules.{rules}
 use Rattle.step.proofs.step.take_step.Goals as goal
 
 pub returns-then-m : goal.returns-then-m

@@ -3,8 +3,6 @@ use native.Mathlib.Omega.{arith}
 use lib.ListN.{get_or-eq_default}
 use Rattle.definition.specs.Memory.{byte_at}
 use borrow.Author.Rules.{rules}
-use Rattle.storage.proofs.memory.byte_at.Reads as reads
-use Rattle.storage.proofs.memory.byte_at.Lts as lts
 use Rattle.storage.proofs.memory.byte_at.Goals as goal
 
 -- src/memory.rt:19:9

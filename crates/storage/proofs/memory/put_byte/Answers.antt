@@ -1,9 +1,6 @@
 use mathlib.Core.Path.{sym}
 use native.Mathlib.Omega.{arith}
 use lib.Seq.{set_out}
-use borrow.Author.Rules.{rules}
-use Rattle.storage.proofs.memory.put_byte.Reads as reads
-use Rattle.storage.proofs.memory.put_byte.Lts as lts
 use Rattle.storage.proofs.memory.put_byte.Goals as goal
 
 -- src/memory.rt:33:1

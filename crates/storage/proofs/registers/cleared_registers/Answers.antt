@@ -1,5 +1,4 @@
 use Rattle.definition.specs.Registers.{cleared}
-use borrow.Author.Rules.{rules}
 use Rattle.storage.proofs.registers.cleared_registers.Goals as goal
 
 pub returns : goal.returns

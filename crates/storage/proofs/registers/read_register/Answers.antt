@@ -2,7 +2,6 @@ use mathlib.Core.Path.{refl, sym}
 use native.Mathlib.Omega.{arith}
 use lib.ListN.{get_or-eq_default}
 use Rattle.definition.specs.Registers.{register}
-use borrow.Author.Rules.{rules}
 use Rattle.storage.proofs.registers.read_register.Goals as goal
 
 pub returns-then-n-lt16 : goal.returns-then-n-lt16

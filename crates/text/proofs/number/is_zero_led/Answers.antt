@@ -1,7 +1,6 @@
 use borrow.Author.Tests.{lt-ltb, le-ltb}
 use Rattle.base.specs.Test.{if◌then◌else◌}
 use Rattle.text.specs.Number.{zero_led}
-use borrow.Author.Rules.{rules}
 use Rattle.text.proofs.number.is_zero_led.Goals as goal
 
 pub returns-then-field-lt2 : goal.returns-then-field-lt2

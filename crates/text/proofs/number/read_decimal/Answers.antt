@@ -1,12 +1,9 @@
-use mathlib.Core.Path.{◌≡◌, sym, ◌∙◌}
-use Prim.Native.Nat.{◌≤◌, ◌-◌}
+use mathlib.Core.Path.{sym, ◌∙◌}
 use native.Mathlib.Omega.{arith}
-use lib.ListN.{length, drop}
 use borrow.Author.Tests.{eq-eqb, ne_eqb}
 use Rattle.base.specs.Test.{if◌then◌else◌}
-use Rattle.text.specs.Number.{digits_from, decimal_of}
+use Rattle.text.specs.Number.{decimal_of}
 use Rattle.text.proofs.NumberLaws.{digit_within, digits_unreadable, digits_full, digits_more, digits_end}
-use borrow.Author.Rules.{rules}
 use Rattle.text.proofs.number.read_decimal.Goals as goal
 
 pub returns-then-field-eq0 : goal.returns-then-field-eq0

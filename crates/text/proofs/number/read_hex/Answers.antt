@@ -4,7 +4,6 @@ use borrow.Author.Tests.{eq-eqb, ne_eqb}
 use Rattle.base.specs.Test.{if◌then◌else◌}
 use Rattle.text.specs.Number.{hex_of}
 use Rattle.text.proofs.NumberLaws.{digit_within}
-use borrow.Author.Rules.{rules}
 use Rattle.text.proofs.number.read_hex.Goals as goal
 
 pub returns-then-field-ne4 : goal.returns-then-field-ne4

@@ -1,9 +1,6 @@
 use mathlib.Core.Path.{sym}
-use Prim.Native.Nat.{◌≤◌, ◌-◌}
 use native.Mathlib.Omega.{arith}
-use lib.ListN.{length}
-use Rattle.text.proofs.Finding.{Searched, hit, miss, end}
-use borrow.Author.Rules.{rules}
+use Rattle.text.proofs.Finding.{hit, miss, end}
 use Rattle.text.proofs.text.find.Goals as goal
 
 pub loop-i-init : goal.loop-i-init

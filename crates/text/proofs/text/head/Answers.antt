@@ -1,6 +1,5 @@
 use mathlib.Core.Path.{sym}
 use lib.Seq.{length-take-le}
-use borrow.Author.Rules.{rules}
 use Rattle.text.proofs.text.head.Goals as goal
 
 pub slice_bounds-result-end : goal.slice_bounds-result-end

@@ -1,4 +1,3 @@
-use borrow.Author.Rules.{rules}
 use Rattle.text.proofs.text.holds_byte.Goals as goal
 
 pub returns : goal.returns

@@ -3,7 +3,6 @@ use Prim.Native.Nat.{◌≤◌, ◌+◌}
 use native.Mathlib.Omega.{arith}
 use lib.ListN.{length, drop_of_length-le}
 use Rattle.text.proofs.Finding.{from_here}
-use borrow.Author.Rules.{rules}
 use Rattle.text.proofs.text.rest.Goals as goal
 
 pub returns-then-n-s : goal.returns-then-n-s

@@ -1,5 +1,4 @@
 use Rattle.transcribe.proofs.FilledLaws.{unfilled, refusal_full, refusal_filled}
-use borrow.Author.Rules.{rules}
 use Rattle.transcribe.proofs.page.refusal_page.Goals as goal
 
 pub returns-then-out-lt-LINE_ROOM : goal.returns-then-out-lt-LINE_ROOM

@@ -1,5 +1,4 @@
 use Rattle.transcribe.proofs.FilledLaws.{run_filled}
-use borrow.Author.Rules.{rules}
 use Rattle.transcribe.proofs.page.run_page.Goals as goal
 
 pub returns : goal.returns

@@ -3,7 +3,6 @@ use Rattle.definition.specs.Setting.{setting_of}
 use mathlib.Core.Path.{◌≡◌, ◌∙◌, ap}
 use Rattle.steplines.specs.declared.remaining.Remaining.TheVariants.{Header}
 use Rattle.transcribe.specs.internal.Filled.{from_header}
-use borrow.Author.Rules.{rules}
 use Rattle.transcribe.proofs.page.taken_page.Goals as goal
 
 pub returns-then-not-header : goal.returns-then-not-header

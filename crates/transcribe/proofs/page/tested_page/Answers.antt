@@ -1,6 +1,5 @@
 use Rattle.definition.specs.Setting.{setting_of}
 use Rattle.transcribe.proofs.FilledLaws.{taken_timed, refused_filled, taken_filled}
-use borrow.Author.Rules.{rules}
 use Rattle.transcribe.proofs.page.tested_page.Goals as goal
 
 pub taken_page-requires : goal.taken_page-requires

@@ -1,10 +1,8 @@
 use mathlib.Core.Path.{◌≡◌, refl, sym, ◌∙◌}
-use Prim.Native.Nat.{◌≤◌}
 use native.Mathlib.Omega.{arith}
-use lib.ListN.{length, drop, length-set}
-use Rattle.transcript.specs.Transcript.{decimal_from, decimal_bytes}
+use lib.ListN.{length-set}
+use Rattle.transcript.specs.Transcript.{decimal_bytes}
 use Rattle.transcript.proofs.TranscriptLaws.{turn_last, turn_more, turn_none}
-use borrow.Author.Rules.{rules}
 use Rattle.transcript.proofs.line.decimal_digits.Goals as goal
 
 pub loop-i-init : goal.loop-i-init

@@ -1,10 +1,7 @@
-use mathlib.Core.Path.{◌≡◌, refl, sym, ◌∙◌}
+use mathlib.Core.Path.{◌≡◌}
 use Prim.Native.Nat.{◌≤◌}
-use native.Mathlib.Omega.{arith}
-use lib.ListN.{length, drop, length-set}
+use lib.ListN.{length, drop}
 use Rattle.transcript.specs.Transcript.{decimal_from, decimal_bytes}
-use Rattle.transcript.proofs.TranscriptLaws.{turn_last, turn_more, turn_none}
-use borrow.Author.Rules.{rules}
 use Rattle.transcript.proofs.line.decimal_digits.Given as goal
 
 abbrev pub invariant-loop-i : goal.invariant-loop-i

@@ -1,10 +1,8 @@
-use mathlib.Core.Path.{◌≡◌, refl, sym, ◌∙◌, ap}
+use mathlib.Core.Path.{◌≡◌}
 use Prim.Native.Nat.{◌-◌, ◌≤◌}
-use native.Mathlib.Omega.{arith}
-use lib.ListN.{length, drop}
-use lib.Seq.{sets, length-sets}
+use lib.ListN.{drop}
+use lib.Seq.{sets}
 use Rattle.transcript.specs.Transcript.{header_line}
-use Rattle.transcript.proofs.TranscriptLaws.{text_put, text_end}
 use Rattle.transcript.proofs.line.header_line.Given as goal
 
 abbrev pub invariant-loop-i : goal.invariant-loop-i

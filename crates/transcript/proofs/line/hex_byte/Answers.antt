@@ -1,7 +1,6 @@
 use borrow.Author.Tests.{lt-ltb, le-ltb}
 use Rattle.base.specs.Test.{if◌then◌else◌}
 use Rattle.transcript.specs.Transcript.{hex_byte}
-use borrow.Author.Rules.{rules}
 use Rattle.transcript.proofs.line.hex_byte.Goals as goal
 
 pub returns-then-d-lt10 : goal.returns-then-d-lt10

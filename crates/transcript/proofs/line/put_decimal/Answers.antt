@@ -1,10 +1,8 @@
-use mathlib.Core.Path.{◌≡◌, refl, sym, ◌∙◌, ap}
-use Prim.Native.Nat.{◌+◌, ◌-◌, ◌≤◌}
+use mathlib.Core.Path.{refl, sym, ◌∙◌, ap}
 use native.Mathlib.Omega.{arith}
 use lib.ListN.{length, drop, length-drop}
-use lib.Seq.{sets, length-sets}
+use lib.Seq.{length-sets}
 use Rattle.transcript.proofs.TranscriptLaws.{text_put, text_end}
-use borrow.Author.Rules.{rules}
 use Rattle.transcript.proofs.line.put_decimal.Goals as goal
 
 pub loop-i-init : goal.loop-i-init

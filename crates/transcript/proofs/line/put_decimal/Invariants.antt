@@ -1,10 +1,7 @@
-use mathlib.Core.Path.{◌≡◌, refl, sym, ◌∙◌, ap}
+use mathlib.Core.Path.{◌≡◌}
 use Prim.Native.Nat.{◌+◌, ◌-◌, ◌≤◌}
-use native.Mathlib.Omega.{arith}
-use lib.ListN.{length, drop, length-drop}
-use lib.Seq.{sets, length-sets}
-use Rattle.transcript.proofs.TranscriptLaws.{text_put, text_end}
-use borrow.Author.Rules.{rules}
+use lib.ListN.{drop}
+use lib.Seq.{sets}
 use Rattle.transcript.proofs.line.put_decimal.Given as goal
 
 abbrev pub invariant-loop-i : goal.invariant-loop-i

@@ -3,7 +3,6 @@ use Prim.Native.Nat.{◌/◌, ◌%◌}
 use Rattle.text.specs.Text.{tab}
 use Rattle.transcript.specs.Transcript.{hex_byte, hex_bytes}
 use Rattle.transcript.proofs.TranscriptLaws.{byte_put, put_then}
-use borrow.Author.Rules.{rules}
 use Rattle.transcript.proofs.line.put_hex_field.Goals as goal
 
 pub returns : goal.returns

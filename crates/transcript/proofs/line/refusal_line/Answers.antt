@@ -5,7 +5,6 @@ use Rattle.base.specs.Refusal.{refusal_number}
 use Rattle.text.specs.Text.{tab, newline}
 use Rattle.transcript.specs.Transcript.{refusal_line}
 use Rattle.transcript.proofs.TranscriptLaws.{byte_put, decimal_put, put_then}
-use borrow.Author.Rules.{rules}
 use Rattle.transcript.proofs.line.refusal_line.Goals as goal
 
 pub returns : goal.returns

@@ -5,7 +5,6 @@ use Rattle.text.specs.Text.{tab, newline}
 use Rattle.answers.specs.Outcome.{kind_letter}
 use Rattle.transcript.specs.Transcript.{step_line}
 use Rattle.transcript.proofs.TranscriptLaws.{byte_put, decimal_put, hex_field_put, put_then}
-use borrow.Author.Rules.{rules}
 use Rattle.transcript.proofs.line.step_line.Goals as goal
 
 pub returns : goal.returns

@@ -1,4 +1,3 @@
-use borrow.Author.Rules.{rules}
 use Rattle.isa.proofs.instruction.Instruction.cycles.Goals as goal
 
 pub returns : goal.returns

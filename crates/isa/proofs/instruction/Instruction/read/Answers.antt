@@ -1,6 +1,5 @@
 use Rattle.isa.proofs.Words.{reading_number}
 use Rattle.isa.specs.Words.{reading}
-use borrow.Author.Rules.{rules}
 use Rattle.isa.proofs.instruction.Instruction.read.Goals as goal
 
 pub returns : goal.returns

@@ -1,5 +1,4 @@
 use Rattle.isa.proofs.Words.{writing_number}
-use borrow.Author.Rules.{rules}
 use Rattle.isa.proofs.instruction.Instruction.write.Goals as goal
 
 pub returns : goal.returns

@@ -1,7 +1,6 @@
 use mathlib.Core.Path.{sym}
 use Rattle.base.specs.Test.{if◌then◌else◌}
 use Rattle.isa.specs.Words.{finished}
-use borrow.Author.Rules.{rules}
 use Rattle.isa.proofs.read.Reading.finish.Goals as goal
 
 pub returns-then-fits : goal.returns-then-fits

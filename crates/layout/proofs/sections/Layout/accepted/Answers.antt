@@ -1,5 +1,4 @@
 use mathlib.Core.Path.{sym, ◌∙◌}
-use borrow.Author.Rules.{rules}
 use Rattle.layout.specs.Rules.{accepted}
 use Rattle.layout.proofs.sections.Layout.accepted.Goals as goal
 

@@ -1,5 +1,4 @@
 use mathlib.Core.Path.{sym, ◌∙◌}
-use borrow.Author.Rules.{rules}
 use Rattle.base.proofs.Tests.{if_true, if_false, fails, holds}
 use Rattle.layout.specs.Access.{access_answer}
 use Rattle.layout.proofs.sections.Layout.access.Goals as goal

@@ -1,4 +1,3 @@
-use borrow.Author.Rules.{rules}
 use Rattle.base.proofs.Tests.{and_stop, and_then, and_last}
 use Rattle.layout.specs.Rules.{all_filled}
 use Rattle.layout.proofs.sections.Layout.all_filled.Goals as goal

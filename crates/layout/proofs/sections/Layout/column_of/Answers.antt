@@ -1,5 +1,4 @@
 use mathlib.Core.Path.{sym, ◌∙◌}
-use borrow.Author.Rules.{rules}
 use borrow.Author.Tests.{eq-eqb, ne_eqb}
 use Rattle.layout.proofs.ColumnLaws.{outside_column, data_column, entry_column, code_column}
 use Rattle.layout.proofs.sections.Layout.column_of.Goals as goal

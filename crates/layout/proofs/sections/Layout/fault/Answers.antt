@@ -1,4 +1,3 @@
-use borrow.Author.Rules.{rules}
 use Rattle.base.specs.Test.{if◌then◌else◌}
 use Rattle.base.specs.FirstFailure.{first_failure}
 use Rattle.base.proofs.Tests.{fails, holds}

@@ -1,4 +1,3 @@
-use borrow.Author.Rules.{rules}
 use Rattle.layout.specs.Sections.{inside}
 use Rattle.layout.proofs.sections.Layout.inside.Goals as goal
 

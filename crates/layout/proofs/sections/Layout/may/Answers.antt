@@ -1,4 +1,3 @@
-use borrow.Author.Rules.{rules}
 use Rattle.layout.specs.Access.{may}
 use Rattle.layout.proofs.sections.Layout.may.Goals as goal
 

@@ -1,4 +1,3 @@
-use borrow.Author.Rules.{rules}
 use Rattle.layout.specs.Sections.{outside}
 use Rattle.layout.proofs.sections.Layout.outside.Goals as goal
 

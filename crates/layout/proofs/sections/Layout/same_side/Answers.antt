@@ -1,4 +1,3 @@
-use borrow.Author.Rules.{rules}
 use Rattle.layout.specs.Sections.{same_side}
 use Rattle.layout.proofs.sections.Layout.same_side.Goals as goal
 

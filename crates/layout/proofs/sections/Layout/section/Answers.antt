@@ -1,5 +1,4 @@
 use mathlib.Core.Path.{sym, ◌∙◌}
-use borrow.Author.Rules.{rules}
 use Rattle.layout.proofs.SectionLaws.{code_section, data_section, no_section}
 use Rattle.layout.proofs.sections.Layout.section.Goals as goal
 

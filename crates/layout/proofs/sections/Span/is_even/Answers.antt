@@ -1,4 +1,3 @@
-use borrow.Author.Rules.{rules}
 use Rattle.base.proofs.Tests.{and_stop, and_then, and_last}
 use Rattle.layout.specs.Rules.{even_span}
 use Rattle.layout.proofs.sections.Span.is_even.Goals as goal

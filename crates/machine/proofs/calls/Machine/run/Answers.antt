@@ -1,5 +1,4 @@
 use Rattle.machine.proofs.AnswerLaws.{run_with_registers}
-use borrow.Author.Rules.{rules}
 use Rattle.machine.proofs.calls.Machine.run.Goals as goal
 
 pub returns : goal.returns

@@ -1,6 +1,5 @@
 use Rattle.base.proofs.Tests.{fails, holds}
 use Rattle.machine.proofs.AnswerLaws.{start_refused, start_taken}
-use borrow.Author.Rules.{rules}
 use Rattle.machine.proofs.calls.Machine.start.Goals as goal
 
 pub returns-then-not-memory_is_whole : goal.returns-then-not-memory_is_whole

@@ -1,6 +1,5 @@
 use mathlib.Core.Path.{◌∙◌}
 use Rattle.rows.proofs.Rows.{dispatch_begun}
-use borrow.Author.Rules.{rules}
 use Rattle.rows.proofs.read.Begun.begin.Goals as goal
 
 pub returns : goal.returns

@@ -1,5 +1,4 @@
 use Rattle.rows.specs.Words.{two_words}
-use borrow.Author.Rules.{rules}
 use Rattle.rows.proofs.read.Begun.two_words.Goals as goal
 
 pub returns-in-Nothing : goal.returns-in-Nothing

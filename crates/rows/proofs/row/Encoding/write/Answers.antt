@@ -3,7 +3,6 @@ use borrow.Author.Tests.{ltb-true}
 use Rattle.base.specs.Test.{if◌then◌else◌}
 use Rattle.base.proofs.Tests.{each}
 use Rattle.rows.specs.Words.{encodable, written}
-use borrow.Author.Rules.{rules}
 use Rattle.rows.proofs.row.Encoding.write.Goals as goal
 
 pub first_word-first-requires : goal.first_word-first-requires

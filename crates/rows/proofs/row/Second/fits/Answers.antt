@@ -1,4 +1,3 @@
-use borrow.Author.Rules.{rules}
 use Rattle.rows.proofs.row.Second.fits.Goals as goal
 
 pub returns-in-Exactly : goal.returns-in-Exactly

@@ -8,7 +8,6 @@ use Rattle.steplines.specs.declared.remaining.Remaining.{Remaining}
 use Rattle.steplines.specs.declared.remaining.Remaining.TheVariants.{Header, Steps, Nothing}
 use Rattle.transcribe.specs.Promise.{world_of, fill_tests}
 use Rattle.transcribe.proofs.FilledLaws.{no_tests, unfilled, nothing_left, promised}
-use borrow.Author.Rules.{rules}
 use Rattle.transcribe.proofs.progress.Transcript.fill.Goals as goal
 
 pub returns-in-Nothing : goal.returns-in-Nothing
