@@ -3,7 +3,6 @@ use Rattle.std.specs.Prelude.{ℕ, ◌+◌, ◌≤◌, List, [], ◌≡◌, leng
 use Rattle.std.proofs.lemmas.List.Edits.{sets}
 use Rattle.definition.specs.State.{World}
 use Rattle.steplines.specs.declared.remaining.Remaining.{Remaining}
-use Rattle.answers.specs.declared.answer.End.{End}
 use Rattle.storage.specs.declared.control.Control.{Control}
 use Rattle.transcript.specs.Transcript.{end_line}
 use Rattle.steplines.specs.declared.remaining.Remaining.TheVariants.{Steps, Nothing}

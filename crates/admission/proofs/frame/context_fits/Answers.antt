@@ -1,4 +1,5 @@
 use mathlib.Core.Path.{refl}
+use native.Mathlib.Omega.{arith}
 use borrow.Author.Tests.{le-leb, lt-leb}
 use Rattle.base.proofs.Tests.{and_stop, and_then, and_last}
 use Rattle.definition.specs.Registers.{register}
@@ -8,7 +9,7 @@ pub returns-then-inside : goal.returns-then-inside
 unfolding register
 returns-then-inside c =
     rw c.in-Held.is
-    (and_then _ refl (le-leb _ _ c.if-age-le6.true)
+    (and_then _ refl (le-leb c.in-Held.age 6 (omega arith))
     (and_then _ c.registers_fit.ensures
     c.if-registers_fit.true
     (and_then _ c.gie_is_set.ensures c.if-gie_is_set.true
@@ -19,7 +20,7 @@ pub returns-else-inside : goal.returns-else-inside
 unfolding register
 returns-else-inside c =
     rw c.in-Held.is
-    (and_then _ refl (le-leb _ _ c.if-age-le6.true)
+    (and_then _ refl (le-leb c.in-Held.age 6 (omega arith))
     (and_then _ c.registers_fit.ensures
     c.if-registers_fit.true
     (and_then _ c.gie_is_set.ensures c.if-gie_is_set.true
@@ -29,7 +30,7 @@ pub returns-else-gie_is_set : goal.returns-else-gie_is_set
 unfolding register
 returns-else-gie_is_set c =
     rw c.in-Held.is
-    (and_then _ refl (le-leb _ _ c.if-age-le6.true)
+    (and_then _ refl (le-leb c.in-Held.age 6 (omega arith))
     (and_then _ c.registers_fit.ensures c.if-registers_fit.true
     (and_stop _ c.gie_is_set.ensures c.if-gie_is_set.false)))
 
@@ -37,7 +38,7 @@ pub returns-else-registers_fit : goal.returns-else-registers_fit
 unfolding register
 returns-else-registers_fit c =
     rw c.in-Held.is
-    (and_then _ refl (le-leb _ _ c.if-age-le6.true)
+    (and_then _ refl (le-leb c.in-Held.age 6 (omega arith))
     (and_stop _ c.registers_fit.ensures c.if-registers_fit.false))
 
 pub returns-else-age-le6 : goal.returns-else-age-le6

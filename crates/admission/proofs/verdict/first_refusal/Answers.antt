@@ -1,3 +1,4 @@
+use Rattle.std.proofs.Common.{◌≡◌, true}
 use Rattle.base.specs.FirstFailure.{first_failure}
 use Rattle.base.specs.Test.{if◌then◌else◌}
 use Rattle.admission.proofs.verdict.first_refusal.Goals as goal
@@ -32,13 +33,15 @@ returns-then-not-frame c = simp (
 
 pub returns-then-not-near : goal.returns-then-not-near
 unfolding first_failure if◌then◌else◌
-returns-then-not-near c = simp (
-  c.if-not-near.true,
-  c.if-not-frame.false,
-  c.if-not-rising.false,
-  c.if-not-fence.false,
-  c.if-not-whole.false,
-)
+returns-then-not-near c =
+    let frame : c.args.frame ≡ true = assumption in
+    simp (
+      c.if-not-near.true,
+      frame,
+      c.if-not-rising.false,
+      c.if-not-fence.false,
+      c.if-not-whole.false,
+    )
 
 pub returns-then-not-early : goal.returns-then-not-early
 unfolding first_failure if◌then◌else◌

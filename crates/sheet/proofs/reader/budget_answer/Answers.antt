@@ -1,3 +1,5 @@
+use native.Mathlib.Omega.{arith}
+use Rattle.base.specs.Limits.{most_budget}
 use borrow.Author.Tests.{le-leb, lt-leb}
 use Rattle.base.specs.Test.{if◌then◌else◌}
 use Rattle.sheet.specs.Sheet.{budget_answer}
@@ -9,8 +11,8 @@ returns-then-budget-gt-MOST_BUDGET c = simp (lt-leb _ _ c.if-budget-gt-MOST_BUDG
 
 pub returns-then-last : goal.returns-then-last
 unfolding budget_answer if◌then◌else◌
-returns-then-last c = simp (le-leb _ _ c.if-budget-gt-MOST_BUDGET.false, c.if-last.true)
+returns-then-last c = simp (le-leb c.args.budget most_budget (omega arith), c.if-last.true)
 
 pub returns : goal.returns
 unfolding budget_answer if◌then◌else◌
-returns c = simp (le-leb _ _ c.if-budget-gt-MOST_BUDGET.false, c.if-last.false)
+returns c = simp (le-leb c.args.budget most_budget (omega arith), c.if-last.false)

@@ -1,3 +1,4 @@
+use Rattle.std.proofs.Common.{◌≡◌, false}
 use mathlib.Core.Path.{refl, sym, ◌∙◌, ap}
 use native.Mathlib.Omega.{arith}
 use Rattle.layout.specs.Sections.{inside}
@@ -18,8 +19,9 @@ returns-then-next c = λ h.
 pub returns-in-Never : goal.returns-in-Never
 unfolding interrupted
 returns-in-Never c = λ h.
+    let going : c.execute-next.result.halted ≡ false = assumption in
     yields
-    (ordinary_serves _ _ _ _ _ _ (c.execute-next.ensures (can_pass_later h _ _ (omega arith) (omega arith))) c.memory_after.ensures c.if-next.false _
+    (ordinary_serves _ _ _ _ _ _ (c.execute-next.ensures (can_pass_later h _ _ (omega arith) (omega arith))) c.memory_after.ensures going _
     (c.inside-inside.ensures ∙ ap (inside _) c.read_register.ensures) _
     (sym c.in-Never.is ∙ c.due_stamp.ensures))
     (refl, refl)
@@ -27,11 +29,12 @@ returns-in-Never c = λ h.
 pub returns-in-At : goal.returns-in-At
 returns-in-At c = λ h.
     let a = c.args in
+    let going : c.execute-next.result.halted ≡ false = assumption in
     let k = (cycles_range a.i).1 in
     let n = c.execute-next.ensures (can_pass_later h _ _ (omega arith) (omega arith)) in
     let e = ap (λ (m : State). m.time.clock) n ∙ next_clock (setting_of a.layout a.stamps.now) a.m a.mem.now a.i in
     yields
-    (ordinary_serves _ _ _ _ _ _ n c.memory_after.ensures c.if-next.false _
+    (ordinary_serves _ _ _ _ _ _ n c.memory_after.ensures going _
     (c.inside-inside.ensures ∙ ap (inside _) c.read_register.ensures) _
     (sym c.in-At.is ∙ c.due_stamp.ensures))
     (c.serve.ensures (can_pass_later h _ _ (omega arith) (omega arith)))

@@ -1,7 +1,6 @@
 use mathlib.Core.List.{[]}
 use Rattle.steplines.proofs.PageLaws.{last_none, last_end}
 use native.Mathlib.Omega.{arith}
-use borrow.Author.Rules.{rules}
 use Rattle.steplines.proofs.steps.last_line.Goals as goal
 
 pub returns-in-Goes : goal.returns-in-Goes

@@ -1,6 +1,5 @@
 use mathlib.Core.Path.{sym, ◌∙◌, ap}
 use native.Mathlib.Omega.{arith}
-use borrow.Author.Rules.{rules}
 use Rattle.definition.specs.Setting.{setting_of}
 use Rattle.definition.specs.declared.state.State.{State}
 use Rattle.definition.specs.Run.{step_of}

@@ -5,7 +5,6 @@ use lib.ListN.{length}
 use borrow.Rule.Slice.PartMut.{put_mid}
 use Rattle.transcript.specs.Transcript.{step_line}
 use Rattle.steplines.proofs.PartLaws.{part_sets}
-use borrow.Author.Rules.{rules}
 use Rattle.steplines.proofs.steps.put_step.Goals as goal
 
 pub returns : goal.returns

@@ -1,15 +1,8 @@
-use mathlib.Core.Path.{sym, ◌∙◌, ap}
-use Prim.Native.Nat.{◌+◌, ◌-◌}
-use native.Mathlib.Omega.{arith}
-use borrow.Author.Rules.{rules}
-use lib.ListN.{length}
+use Prim.Native.Nat.{◌-◌}
 use Rattle.definition.specs.Setting.{setting_of}
-use Rattle.definition.specs.Registers.{register}
 use Rattle.definition.specs.State.{world}
 use Rattle.storage.specs.Control.{with_registers}
-use Rattle.steplines.specs.internal.Course.{goes_on}
-use Rattle.steplines.proofs.CourseLaws.{course_told}
-use Rattle.steplines.proofs.PageLaws.{PageKeeps, page_first, page_length, page_next, page_passed, page_ends, page_ends_none}
+use Rattle.steplines.proofs.PageLaws.{PageKeeps}
 use Rattle.steplines.proofs.steps.write_steps.Given as goal
 
 abbrev pub invariant-loop-out : goal.invariant-loop-out
