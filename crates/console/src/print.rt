@@ -1,52 +1,50 @@
-// Fields of a line on standard output: each but the first after a space, the line ended by a newline.
-use libc::STDOUT_FILENO;
+// Fields of a line, put on what is written to: each but the first after a space, the line ended by a newline.
+use std::io;
+use std::io::Write;
 
 // Bytes as they are.
-pub fn text(t: &[u8]) {
-    io::write_all(STDOUT_FILENO, t);
+pub fn text(out: &mut impl Write, t: &[u8]) -> io::Result<()> {
+    out.write_all(t)
 }
 
 // The end of the line.
-pub fn end_line() {
-    text(b"\n");
+pub fn end_line(out: &mut impl Write) -> io::Result<()> {
+    text(out, b"\n")
 }
 
 // The line of what cannot be read or done: a question mark.
-pub fn unknown() {
-    text(b"?\n");
+pub fn unknown(out: &mut impl Write) -> io::Result<()> {
+    text(out, b"?\n")
 }
 
 // A word: four hexadecimal digits.
-pub fn word(w: u16) {
-    io::print_hex(STDOUT_FILENO, w as u64, 4);
+pub fn word(out: &mut impl Write, w: u16) -> io::Result<()> {
+    write!(out, "{w:04x}")
 }
 
 // A word after a space.
-pub fn space_word(w: u16) {
-    text(b" ");
-    word(w);
+pub fn space_word(out: &mut impl Write, w: u16) -> io::Result<()> {
+    write!(out, " {w:04x}")
 }
 
 // A number after a space, hexadecimal.
-pub fn space_hex(n: u64) {
-    text(b" ");
-    io::print_hex(STDOUT_FILENO, n, 1);
+pub fn space_hex(out: &mut impl Write, n: u64) -> io::Result<()> {
+    write!(out, " {n:x}")
 }
 
 // A number after a space, decimal.
-pub fn space_decimal(n: u64) {
-    text(b" ");
-    io::print_decimal(STDOUT_FILENO, n);
+pub fn space_decimal(out: &mut impl Write, n: u64) -> io::Result<()> {
+    write!(out, " {n}")
 }
 
 // A letter after a space.
-pub fn space_letter(letter: u8) {
+pub fn space_letter(out: &mut impl Write, letter: u8) -> io::Result<()> {
     let field = [b' ', letter];
-    text(&field);
+    text(out, &field)
 }
 
 // A refusal: E and its number.
-pub fn refusal(number: u8) {
-    text(b" E");
-    space_decimal(number as u64);
+pub fn refusal(out: &mut impl Write, number: u8) -> io::Result<()> {
+    text(out, b" E")?;
+    space_decimal(out, u64::from(number))
 }
