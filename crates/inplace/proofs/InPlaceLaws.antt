@@ -6,7 +6,8 @@ use Prim.Native.Nat.{ℕ, ◌≤◌}
 use native.Mathlib.Omega.{arith}
 use lib.ListN.{get_or}
 use borrow.Author.Tests.{ne_eqb}
-use Rattle.base.proofs.Tests.{if_false, fails}
+use Rattle.base.proofs.Tests.{if_false}
+use Rattle.std.proofs.lemmas.Bool.{not-true}
 use Rattle.definition.specs.Setting.{Setting}
 use Rattle.definition.specs.declared.state.SavedContext.{SavedContext}
 use Rattle.definition.specs.declared.state.SavedContext.TheVariants.{Unheld, Held}
@@ -43,7 +44,7 @@ module _ (S : Setting) where
       (fast_state rs' progress.previous progress.clock bytes)
       → FastRanSteps S c rs mem progress rs' bytes
   fast_ran rs mem rs' bytes c until held progress s h q =
-      λ saved. fast_steps_ran S rs saved mem c until _ held s.0 s.1 h (λ l. fails refl l) _ _ q
+      λ saved. fast_steps_ran S rs saved mem c until _ held s.0 s.1 h (λ l. not-true _ l) _ _ q
 
   module _ (c : Control) (rs mem : List ℕ) (progress : FastProgress) (rs' bytes : List ℕ) (q : FastRanSteps S c rs mem progress rs' bytes) where
     -- a burst of no step leaves everything as it is
