@@ -18,7 +18,7 @@ pub fn read_whole(rt: &impl Input, out: &mut impl Write, buffer: &mut [u8]) -> i
 }
 
 // Reads until the buffer is full or the reader's bytes end, and answers how many it put there.
-fn read_full(reader: &mut impl Read, buffer: &mut [u8]) -> io::Result<usize>
+pub fn read_full(reader: &mut impl Read, buffer: &mut [u8]) -> io::Result<usize>
     ensures { ReadsAtMost result buffer.new }
 {
     let mut done = 0;
