@@ -26,8 +26,11 @@ use Rattle.base.proofs.KeptLaws.{kept, given}
 module _
     (layout stamps : List ℕ) (budget : ℕ) (before : PageRoom) (L : Layout) (l : L ≡ layout_of layout) (m : State)
     (j : m ≡ machine_of before.machine) (rest : Remaining) (i : rest ≡ stage_of before.stage) where
+  abbrev at_stage : State → Remaining → Transcript
+  at_stage z r = record { state = z; steps = before.steps; budget = budget; remaining = r }
+
   abbrev told : Transcript
-  told = record { state = m; steps = before.steps; budget = budget; remaining = rest }
+  told = at_stage m rest
 
   verdict_by : verdict (fill_tests (setting_of L stamps) told before.memory rest) ≡ page_verdict layout stamps budget before
   unfolding page_verdict transcript_of
@@ -35,7 +38,10 @@ module _
 
   page_by_lem : page_call (setting_of L stamps) (length before.buffer) told before.memory ≡ page_on layout stamps budget before
   unfolding page_on transcript_of
-  page_by_lem = ap (λ (z : Layout). page_call (setting_of z stamps) (length before.buffer) told before.memory) l ∙ rw (j, i)
+  page_by_lem =
+      ap (λ (z : Layout). page_call (setting_of z stamps) (length before.buffer) told before.memory) l
+      ∙ ap (λ (z : State). page_call (setting_of (layout_of layout) stamps) (length before.buffer) (at_stage z rest) before.memory) j
+      ∙ ap (λ (z : Remaining). page_call (setting_of (layout_of layout) stamps) (length before.buffer) (at_stage (machine_of before.machine) z) before.memory) i
 
   module _
       (done : Filled) (mem_then exit : List ℕ)

@@ -39,8 +39,8 @@ fn store_lines(mem: &mut [u8; MEMORY_BYTES], sheet: &[u8])
 
 // The sheet's memory: the words of the M lines, and 0 elsewhere.
 pub fn load_memory(mem: &mut [u8; MEMORY_BYTES], sheet: &[u8])
-    ensures mem_after { mem.new ≡ sheet_memory sheet.now }
-    ensures memory_bytes_value { memory_bytes ≡ length mem.new }
+    ensures loaded { mem.new ≡ sheet_memory sheet.now }
+    ensures size { memory_bytes ≡ length mem.new }
 {
     *mem = [0; MEMORY_BYTES];
     store_lines(mem, sheet);

@@ -7,4 +7,4 @@ use Rattle.loader.proofs.load.load_memory.Goals as goal
 
 pub returns : goal.returns
 unfolding sheet_memory
-returns c = record { mem_after = c.store_lines.ensures; memory_bytes_value = sym (ap length c.store_lines.ensures ∙ sheet_memory_length _) }
+returns c = record { loaded = c.store_lines.ensures; size = sym (ap length c.store_lines.ensures ∙ sheet_memory_length _) }

@@ -1,0 +1,7 @@
+use mathlib.Core.Path.{refl}
+use Rattle.output.proofs.OpenLaws.{started}
+use borrow.Author.Rules.{rules}
+use Rattle.output.proofs.open.unwritten.Goals as goal
+
+pub returns : goal.returns
+returns c = (refl, started _ _ _ c.start-started.ensures.result)
