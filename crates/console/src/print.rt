@@ -1,5 +1,5 @@
-// Fields of a line, put on what is written to: each but the first after a space, the line ended by a newline. A field that is put there
-// whole is what the contract says; one that could not be has told why.
+// Fields of a line, put on what is written to: each but the first after a space, the line ended by a newline. Each function answers why
+// a write failed. Where none did, its contract says which bytes were put, for every writer that is known to hold what it is given.
 ghost use Rattle.std.specs.Prelude.{◌∷◌, [], ◌++◌, codes, OnOk};
 ghost use Rattle.std.specs.Io.KnownBytes.{Appends};
 ghost use Rattle.std.specs.Fmt.{decimal};
@@ -30,6 +30,7 @@ pub fn unknown<W: Write>(out: &mut W) -> io::Result<()>
 }
 
 // A word: four hexadecimal digits.
+#[tactic(auto, using(crate::proofs::Words::word_padded))]
 pub fn word<W: Write>(out: &mut W, w: u16) -> io::Result<()>
     ensures { OnOk result (Appends (W.contents out.old) (W.contents out.new) (word_digits w)) }
 {
@@ -37,6 +38,7 @@ pub fn word<W: Write>(out: &mut W, w: u16) -> io::Result<()>
 }
 
 // A word after a space.
+#[tactic(auto, using(crate::proofs::Words::word_padded))]
 pub fn space_word<W: Write>(out: &mut W, w: u16) -> io::Result<()>
     ensures { OnOk result (Appends (W.contents out.old) (W.contents out.new) (32 ∷ word_digits w)) }
 {
