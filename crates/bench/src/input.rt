@@ -1,27 +1,12 @@
 // Standard input, read whole.
-use libc::STDIN_FILENO;
+ghost use Rattle.std.specs.Io.{ReadsAtMost};
 
-// How many bytes were read, or that reading failed.
-#[derive(Clone, Copy)]
-pub enum Input {
-    Bytes(usize),
-    Failed,
-}
+use console::input::read_full;
+use std::io;
 
-// Reads until the buffer is full or the input ends.
-pub fn read(buffer: &mut [u8]) -> Input {
-    let mut done = 0;
-    while done < buffer.len() {
-        let end = buffer.len();
-        let got = libc::read(STDIN_FILENO, &mut buffer[done..end]);
-        if got < 0 {
-            return Input::Failed;
-        }
-        let more = io::count(got, &buffer[done..end]);
-        if more == 0 {
-            return Input::Bytes(done);
-        }
-        done += more;
-    }
-    Input::Bytes(done)
+// Reads until the buffer is full or the input ends, and answers how many bytes it put there.
+pub fn read(rt: &impl Input, buffer: &mut [u8]) -> io::Result<usize>
+    ensures { ReadsAtMost result buffer.new }
+{
+    read_full(&mut rt.reader(), buffer)
 }

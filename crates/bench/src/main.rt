@@ -7,8 +7,10 @@ mod writer;
 
 use base::limits::{MEMORY_BYTES, MOST_SHEET_BYTES, MOST_STAMPS};
 use explain::sentence::explanation;
-use input::Input;
 use output::open::open_sheet;
+use std::io;
+use std::io::{ErrorKind, Write};
+use std::process::ExitCode;
 use steplines::remaining::Remaining;
 
 // A sheet that is one byte too long is still read whole, so that it is seen to be.
@@ -17,13 +19,16 @@ const INPUT_BYTES: usize = MOST_SHEET_BYTES + 1;
 // Lines are gathered and written together.
 const PAGE_BYTES: usize = 65536;
 
+// The status of a process that a closed pipe ended, as shells count it: 128 and the signal's number.
+const READER_GONE: u8 = 128 + 13;
+
 // On standard error what is wrong with a sheet, where it is refused.
-fn explain_refusal(page: &mut [u8], text: &[u8], remaining: Remaining) {
+fn explain_refusal(errors: &mut impl Write, page: &mut [u8], text: &[u8], remaining: Remaining) {
     match remaining {
         Remaining::RefusalLine(refusal, line) => {
             let n = explanation(page, text, refusal, line);
             if n <= page.len() {
-                writer::complain(&page[0..n]);
+                writer::complain(errors, &page[0..n]);
             }
         }
         Remaining::Header => {}
@@ -32,29 +37,47 @@ fn explain_refusal(page: &mut [u8], text: &[u8], remaining: Remaining) {
     }
 }
 
-// Reads the sheet whole, and writes all that it leads to.
-fn main() {
+// A write failed. Where the reader is gone it wants no more: then the process ends quietly. Else a sentence tells.
+fn unwritten(errors: &mut impl Write, why: io::Error) -> ExitCode {
+    if why.kind() == ErrorKind::BrokenPipe {
+        return ExitCode::from(READER_GONE);
+    }
+    writer::complain(errors, b"bench: standard output cannot be written\n");
+    ExitCode::SUCCESS
+}
+
+// Reads the sheet whole, and writes all that it leads to. What fails is told on standard error, and by no status.
+fn main(rt: HostRuntime) -> ExitCode {
     let mut sheet = [0u8; INPUT_BYTES];
     let mut page = [0u8; PAGE_BYTES];
     let mut mem = [0u8; MEMORY_BYTES];
     let mut stamps = [0u64; MOST_STAMPS];
-    let Input::Bytes(n) = input::read(&mut sheet) else {
-        writer::complain(b"bench: standard input cannot be read\n");
-        return;
+    let mut out = io::writer(&rt);
+    let mut errors = rt.stderr();
+    let Ok(n) = input::read(&rt, &mut sheet) else {
+        writer::complain(&mut errors, b"bench: standard input cannot be read\n");
+        return ExitCode::SUCCESS;
     };
-    if n > INPUT_BYTES {
-        return;
-    }
-    let text: &[u8] = &sheet[0..n];
+    let text: &[u8] = &sheet[..n];
     let opened = open_sheet(text, &mut mem, &mut stamps);
     let transcript = opened.transcript;
     let layout = opened.layout;
     let count = opened.count;
     if count > MOST_STAMPS {
-        return;
+        return ExitCode::SUCCESS;
     }
     let remaining = transcript.remaining;
-    if pages::write_pages(transcript, &mut mem, layout, &stamps[0..count], &mut page) {
-        explain_refusal(&mut page, text, remaining);
+    let written = pages::write_pages(
+        &mut out,
+        transcript,
+        &mut mem,
+        layout,
+        &stamps[0..count],
+        &mut page,
+    );
+    if let Err(why) = written {
+        return unwritten(&mut errors, why);
     }
+    explain_refusal(&mut errors, &mut page, text, remaining);
+    ExitCode::SUCCESS
 }

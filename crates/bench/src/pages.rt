@@ -2,33 +2,32 @@
 use crate::writer;
 use base::limits::MOST_BUDGET;
 use layout::sections::Layout;
+use std::io;
+use std::io::Write;
 use transcribe::progress::Transcript;
 
 // Each page but the last has a line at least: the header, one for each step of the largest budget, the end's line.
 const MOST_PAGES: u64 = MOST_BUDGET + 2;
 
-// Writes all that is still to be written; answers false where writing failed. Every page of the transcript is the contract of `fill`.
+// Writes all that is still to be written, or answers why a write failed. Every page of the transcript is the contract of `fill`.
 pub fn write_pages(
+    out: &mut impl Write,
     transcript: Transcript,
     mem: &mut [u8],
     layout: Layout,
     stamps: &[u64],
     page: &mut [u8],
-) -> bool {
+) -> io::Result<()> {
     let mut current = transcript;
-    let mut pages: u64 = 0;
-    while pages < MOST_PAGES {
+    for _ in 0..MOST_PAGES {
         let filled = current.fill(mem, layout, stamps, page);
         let n = filled.written;
         if n == 0 {
-            return true;
+            return Ok(());
         }
-        if !writer::write(&page[0..n]) {
-            return false;
-        }
+        writer::write(out, &page[0..n])?;
         let next = filled.transcript;
         current = next;
-        pages += 1;
     }
-    true
+    Ok(())
 }

@@ -1,16 +1,13 @@
 // Standard output, and sentences on standard error.
-use libc::{STDERR_FILENO, STDOUT_FILENO};
+use std::io;
+use std::io::Write;
 
-// Says a sentence.
-pub fn complain(text: &[u8]) {
-    io::write_all(STDERR_FILENO, text);
+// Says a sentence. Where that fails, there is nobody to be told.
+pub fn complain(errors: &mut impl Write, text: &[u8]) {
+    let _ = errors.write_all(text);
 }
 
-// Writes; says so and answers false where that fails.
-pub fn write(text: &[u8]) -> bool {
-    if io::write_all(STDOUT_FILENO, text) {
-        return true;
-    }
-    complain(b"bench: standard output cannot be written\n");
-    false
+// Writes.
+pub fn write(out: &mut impl Write, text: &[u8]) -> io::Result<()> {
+    out.write_all(text)
 }

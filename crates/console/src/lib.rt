@@ -1,4 +1,4 @@
-// The console of the programs that print lines of fields: standard output and standard input.
+// The console of the programs that print lines of fields: what their output is put on, and standard input.
 #![tactic(auto)]
 
 pub mod input;

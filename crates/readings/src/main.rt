@@ -7,12 +7,16 @@ mod reading;
 
 use base::limits::{MEMORY_BYTES, MOST_STAMPS};
 use console::input::read_whole;
+use std::io;
+use std::io::{BufWriter, Write};
 
-// The sheets are read whole, and played in turn.
-fn main() {
-    let mut sheets = [0u8; 524288];
+// The sheets are read whole, and played in turn. Lines of output are gathered and written together.
+fn main(rt: HostRuntime) -> io::Result<()> {
+    let mut sheets = vec![in rt.alloc(); 0u8; 524288]?;
     let mut mem = [0u8; MEMORY_BYTES];
     let mut stamps = [0u64; MOST_STAMPS];
-    let n = read_whole(&mut sheets);
-    reading::all(&sheets[..n], &mut mem, &mut stamps);
+    let mut out = BufWriter::new(rt.alloc(), io::writer(&rt))?;
+    let n = read_whole(&rt, &mut out, &mut sheets)?;
+    reading::all(&mut out, &sheets[..n], &mut mem, &mut stamps)?;
+    out.flush()
 }

@@ -5,6 +5,8 @@ use console::print;
 use loader::load::{load_memory, load_stamps};
 use machine::calls::Machine;
 use sheet::reader::{Answer, Setup, read_sheet};
+use std::io;
+use std::io::Write;
 use text::text::{head, rest};
 use transcript::line::{end_line, refusal_line};
 
@@ -45,23 +47,36 @@ fn last_line(
 }
 
 // One sheet: its name, a tab, its last line.
-fn one(name: &[u8], text: &[u8], mem: &mut [u8; MEMORY_BYTES], stamps: &mut [u64]) {
+fn one(
+    out: &mut impl Write,
+    name: &[u8],
+    text: &[u8],
+    mem: &mut [u8; MEMORY_BYTES],
+    stamps: &mut [u64],
+) -> io::Result<()> {
     let mut line = [0u8; 64];
-    print::text(name);
-    print::text(b"\t");
+    print::text(out, name)?;
+    print::text(out, b"\t")?;
     let n = last_line(&mut line, text, mem, stamps);
     if n <= 64 {
-        print::text(&line[0..n]);
+        print::text(out, &line[0..n])?;
     }
+    Ok(())
 }
 
 // Every sheet.
-pub fn all(text: &[u8], mem: &mut [u8; MEMORY_BYTES], stamps: &mut [u64]) {
+pub fn all(
+    out: &mut impl Write,
+    text: &[u8],
+    mem: &mut [u8; MEMORY_BYTES],
+    stamps: &mut [u64],
+) -> io::Result<()> {
     let mut left = text;
     while left.len() > 0 {
         let sheets = rest(left, b'%');
         let after = rest(sheets, b'%');
-        one(head(left, b'%'), head(sheets, b'%'), mem, stamps);
+        one(out, head(left, b'%'), head(sheets, b'%'), mem, stamps)?;
         left = after;
     }
+    Ok(())
 }

@@ -6,12 +6,18 @@ mod access;
 mod sums;
 mod words;
 
-fn main() {
-    words::around_edges();
-    words::second_words();
-    words::written();
-    sums::all();
-    sums::inverted();
-    access::from_each();
-    access::layouts();
+use std::io;
+use std::io::{BufWriter, Write};
+
+// Lines are gathered and written together.
+fn main(rt: HostRuntime) -> io::Result<()> {
+    let mut out = BufWriter::new(rt.alloc(), io::writer(&rt))?;
+    words::around_edges(&mut out)?;
+    words::second_words(&mut out)?;
+    words::written(&mut out)?;
+    sums::all(&mut out)?;
+    sums::inverted(&mut out)?;
+    access::from_each(&mut out)?;
+    access::layouts(&mut out)?;
+    out.flush()
 }

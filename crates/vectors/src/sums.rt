@@ -3,64 +3,63 @@ use alu::arithmetic::{Computed, compute, invert};
 use alu::status::set_flags;
 use console::print;
 use rows::row::Operation;
+use std::io;
+use std::io::Write;
 
 const VALUES: [u16; 5] = [0x0000, 0x0001, 0x7fff, 0x8000, 0xffff];
 
-fn name(o: Operation) {
+fn name(out: &mut impl Write, o: Operation) -> io::Result<()> {
     match o {
-        Operation::Add => print::text(b"ADD"),
-        Operation::Sub => print::text(b"SUB"),
-        Operation::Cmp => print::text(b"CMP"),
-        Operation::And => print::text(b"AND"),
+        Operation::Add => print::text(out, b"ADD"),
+        Operation::Sub => print::text(out, b"SUB"),
+        Operation::Cmp => print::text(out, b"CMP"),
+        Operation::And => print::text(out, b"AND"),
     }
 }
 
-fn show_result(c: Computed) {
-    print::space_word(c.result);
-    print::space_word(set_flags(0, c));
-    print::end_line();
+fn show_result(out: &mut impl Write, c: Computed) -> io::Result<()> {
+    print::space_word(out, c.result)?;
+    print::space_word(out, set_flags(0, c))?;
+    print::end_line(out)
 }
 
-fn show(o: Operation, s: u16, d: u16) {
-    name(o);
-    print::space_word(s);
-    print::space_word(d);
-    show_result(compute(o, s, d));
+fn show(out: &mut impl Write, o: Operation, s: u16, d: u16) -> io::Result<()> {
+    name(out, o)?;
+    print::space_word(out, s)?;
+    print::space_word(out, d)?;
+    show_result(out, compute(o, s, d))
 }
 
-fn with_source(o: Operation, s: u16) {
-    let mut i = 0;
-    while i < 5 {
-        show(o, s, VALUES[i]);
-        i += 1;
+fn with_source(out: &mut impl Write, o: Operation, s: u16) -> io::Result<()> {
+    for d in VALUES {
+        show(out, o, s, d)?;
     }
+    Ok(())
 }
 
-fn each(o: Operation) {
-    let mut i = 0;
-    while i < 5 {
-        with_source(o, VALUES[i]);
-        i += 1;
+fn each(out: &mut impl Write, o: Operation) -> io::Result<()> {
+    for s in VALUES {
+        with_source(out, o, s)?;
     }
+    Ok(())
 }
 
-pub fn all() {
-    each(Operation::Add);
-    each(Operation::Sub);
-    each(Operation::Cmp);
-    each(Operation::And);
+pub fn all(out: &mut impl Write) -> io::Result<()> {
+    each(out, Operation::Add)?;
+    each(out, Operation::Sub)?;
+    each(out, Operation::Cmp)?;
+    each(out, Operation::And)
 }
 
-fn show_inverted(d: u16) {
-    print::text(b"NOT");
-    print::space_word(d);
-    show_result(invert(d));
+fn show_inverted(out: &mut impl Write, d: u16) -> io::Result<()> {
+    print::text(out, b"NOT")?;
+    print::space_word(out, d)?;
+    show_result(out, invert(d))
 }
 
-pub fn inverted() {
-    let mut i = 0;
-    while i < 5 {
-        show_inverted(VALUES[i]);
-        i += 1;
+pub fn inverted(out: &mut impl Write) -> io::Result<()> {
+    for d in VALUES {
+        show_inverted(out, d)?;
     }
+    Ok(())
 }

@@ -5,6 +5,8 @@ use isa::instruction::{Instruction, Operand};
 use isa::read::Reading;
 use rows::row::Operation;
 use rows::write::Writing;
+use std::io;
+use std::io::Write;
 
 // The rows' edges.
 const EDGES: [u16; 26] = [
@@ -53,101 +55,99 @@ fn take_apart(i: Instruction) -> Parts {
     }
 }
 
-fn show_parts(i: Instruction) {
+fn show_parts(out: &mut impl Write, i: Instruction) -> io::Result<()> {
     let p = take_apart(i);
-    print::space_decimal(p.kind as u64);
-    print::space_decimal(p.source as u64);
-    print::space_decimal(p.destination as u64);
-    print::space_word(p.constant);
+    print::space_decimal(out, p.kind as u64)?;
+    print::space_decimal(out, p.source as u64)?;
+    print::space_decimal(out, p.destination as u64)?;
+    print::space_word(out, p.constant)
 }
 
-fn show_written(w: Writing) {
+fn show_written(out: &mut impl Write, w: Writing) -> io::Result<()> {
     match w {
-        Writing::One(first) => print::space_word(first),
+        Writing::One(first) => print::space_word(out, first),
         Writing::Two(first, second) => {
-            print::space_word(first);
-            print::space_word(second);
+            print::space_word(out, first)?;
+            print::space_word(out, second)
         }
-        Writing::Refused(r) => print::refusal(r.number()),
+        Writing::Refused(r) => print::refusal(out, r.number()),
     }
 }
 
 // Two words, and the instruction with its length, its cycles and the words that it is written as, or E and the number.
-fn show_read(first: u16, second: u16) {
-    print::word(first);
-    print::space_word(second);
+fn show_read(out: &mut impl Write, first: u16, second: u16) -> io::Result<()> {
+    print::word(out, first)?;
+    print::space_word(out, second)?;
     match Instruction::read(first, second) {
         Reading::Decoded(i, n) => {
-            show_parts(i);
-            print::space_decimal(n as u64);
-            print::space_decimal(i.cycles() as u64);
-            show_written(i.write());
+            show_parts(out, i)?;
+            print::space_decimal(out, n as u64)?;
+            print::space_decimal(out, i.cycles() as u64)?;
+            show_written(out, i.write())?;
         }
-        Reading::Refused(r) => print::refusal(r.number()),
+        Reading::Refused(r) => print::refusal(out, r.number())?,
     }
-    print::end_line();
+    print::end_line(out)
 }
 
 // The 32 words around one edge, each with another second word.
-fn around(edge: u16) {
-    let mut k: u16 = 0;
-    while k < 32 {
+fn around(out: &mut impl Write, edge: u16) -> io::Result<()> {
+    for k in 0u16..32 {
         let v = (k % 4) as usize;
-        show_read(sum(sum(edge, 0xfff0), k), SECONDS[v]);
-        k += 1;
+        show_read(out, sum(sum(edge, 0xfff0), k), SECONDS[v])?;
     }
+    Ok(())
 }
 
-pub fn around_edges() {
-    let mut i = 0;
-    while i < 26 {
-        around(EDGES[i]);
-        i += 1;
+pub fn around_edges(out: &mut impl Write) -> io::Result<()> {
+    for edge in EDGES {
+        around(out, edge)?;
     }
+    Ok(())
 }
 
 // First words of two-word instructions with a right and a wrong second word.
-pub fn second_words() {
-    show_read(0x4585, 0x0000);
-    show_read(0xe035, 0x0000);
-    show_read(0x4035, 0x0000);
-    show_read(0x4585, 0xffff);
-    show_read(0xe035, 0xffff);
-    show_read(0x4035, 0xffff);
+pub fn second_words(out: &mut impl Write) -> io::Result<()> {
+    show_read(out, 0x4585, 0x0000)?;
+    show_read(out, 0xe035, 0x0000)?;
+    show_read(out, 0x4035, 0x0000)?;
+    show_read(out, 0x4585, 0xffff)?;
+    show_read(out, 0xe035, 0xffff)?;
+    show_read(out, 0x4035, 0xffff)
 }
 
-fn show_write(i: Instruction) {
-    print::text(b"W");
-    show_parts(i);
-    show_written(i.write());
-    print::end_line();
+fn show_write(out: &mut impl Write, i: Instruction) -> io::Result<()> {
+    print::text(out, b"W")?;
+    show_parts(out, i)?;
+    show_written(out, i.write())?;
+    print::end_line(out)
 }
 
 // Instructions that no words stand for, each beside a neighbour that has words.
-pub fn written() {
-    show_write(Instruction::In(15));
-    show_write(Instruction::In(16));
-    show_write(Instruction::Out(255));
-    show_write(Instruction::Jz(16));
-    show_write(Instruction::Jmp(16));
-    show_write(Instruction::Mov(Operand::Register(3), 3));
-    show_write(Instruction::Mov(Operand::Register(3), 4));
-    show_write(Instruction::Mov(Operand::Register(5), 0));
-    show_write(Instruction::Mov(Operand::Register(16), 5));
-    show_write(Instruction::Mov(Operand::Pointed(0), 5));
-    show_write(Instruction::Mov(Operand::Pointed(1), 5));
-    show_write(Instruction::Mov(Operand::Pointed(2), 5));
-    show_write(Instruction::Mov(Operand::Pointed(3), 5));
-    show_write(Instruction::Mov(Operand::Constant(0x1234), 0));
-    show_write(Instruction::Mov(Operand::Constant(0x1234), 16));
-    show_write(Instruction::Store(5, 0));
-    show_write(Instruction::Store(0, 1));
-    show_write(Instruction::Store(5, 2));
-    show_write(Instruction::Store(5, 3));
-    show_write(Instruction::Store(16, 4));
-    show_write(Instruction::Compute(Operation::Add, 15, 15));
-    show_write(Instruction::Compute(Operation::Sub, 16, 15));
-    show_write(Instruction::Compute(Operation::And, 15, 255));
-    show_write(Instruction::Not(15));
-    show_write(Instruction::Not(16));
+pub fn written(out: &mut impl Write) -> io::Result<()> {
+    show_write(out, Instruction::In(15))?;
+    show_write(out, Instruction::In(16))?;
+    show_write(out, Instruction::Out(255))?;
+    show_write(out, Instruction::Jz(16))?;
+    show_write(out, Instruction::Jmp(16))?;
+    show_write(out, Instruction::Mov(Operand::Register(3), 3))?;
+    show_write(out, Instruction::Mov(Operand::Register(3), 4))?;
+    show_write(out, Instruction::Mov(Operand::Register(5), 0))?;
+    show_write(out, Instruction::Mov(Operand::Register(16), 5))?;
+    show_write(out, Instruction::Mov(Operand::Pointed(0), 5))?;
+    show_write(out, Instruction::Mov(Operand::Pointed(1), 5))?;
+    show_write(out, Instruction::Mov(Operand::Pointed(2), 5))?;
+    show_write(out, Instruction::Mov(Operand::Pointed(3), 5))?;
+    show_write(out, Instruction::Mov(Operand::Constant(0x1234), 0))?;
+    show_write(out, Instruction::Mov(Operand::Constant(0x1234), 16))?;
+    show_write(out, Instruction::Store(5, 0))?;
+    show_write(out, Instruction::Store(0, 1))?;
+    show_write(out, Instruction::Store(5, 2))?;
+    show_write(out, Instruction::Store(5, 3))?;
+    show_write(out, Instruction::Store(16, 4))?;
+    show_write(out, Instruction::Compute(Operation::Add, 15, 15))?;
+    show_write(out, Instruction::Compute(Operation::Sub, 16, 15))?;
+    show_write(out, Instruction::Compute(Operation::And, 15, 255))?;
+    show_write(out, Instruction::Not(15))?;
+    show_write(out, Instruction::Not(16))
 }
