@@ -6,18 +6,18 @@ use native.Mathlib.Omega.{arith}
 use lib.Dec.{leb, ltb}
 use lib.IntN.{pos, negsuc, sub_ℕ, neg_ℤ, ◌+ℤ◌, ◌-ℤ◌}
 use borrow.Author.Tests.{leb-true, leb-false, le-leb, lt-leb, ltb-true, ltb-false}
-use Rattle.base.specs.Test.{if◌then◌else◌, all}
+use Rattle.base.specs.Test.{when◌then◌else◌, all}
 use Rattle.base.proofs.Tests.{cases}
 use Rattle.alu.specs.Arithmetic.{bit15, sign_turns}
 use Rattle.alu.specs.Laws.{signed, fits16, OverflowIsSigned}
 
 -- a number from 0 fits up to 32,767, and one below 0 down to -32,768
 fits_pos : (n : ℕ) → fits16 (pos n) ≡ leb n 0x7FFF
-unfolding fits16 all if◌then◌else◌
+unfolding fits16 all when◌then◌else◌
 fits_pos n = cases (leb n 0x7FFF) (λ h. rw h) (λ h. rw h)
 
 fits_neg : (n : ℕ) → fits16 (negsuc n) ≡ leb n 0x7FFF
-unfolding fits16 all if◌then◌else◌
+unfolding fits16 all when◌then◌else◌
 fits_neg n = cases (leb n 0x7FFF) (λ h. rw h) (λ h. rw h)
 
 -- a difference of two naturals that lie near enough fits
@@ -28,11 +28,11 @@ fits_near a b ha hb =
     (λ h. ap (λ (t : Bool). fits16 (cond t (negsuc (b - suc a)) (pos (a - b)))) h ∙ fits_pos (a - b) ∙ le-leb (a - b) 0x7FFF (omega (arith, ltb-false)))
 
 signed_pos : (w : ℕ) → w < 0x8000 → signed w ≡ pos w
-unfolding signed if◌then◌else◌
+unfolding signed when◌then◌else◌
 signed_pos w h = rw (lt-leb 0x8000 w h)
 
 signed_neg : (w : ℕ) → 0x8000 ≤ w → signed w ≡ negsuc (0xFFFF - w)
-unfolding signed if◌then◌else◌
+unfolding signed when◌then◌else◌
 signed_neg w h = rw (le-leb 0x8000 w h)
 
 -- the sign rule for operands of two signs, and of one

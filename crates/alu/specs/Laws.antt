@@ -1,7 +1,7 @@
 -- What is claimed of the overflow and of the status word.
 use Rattle.std.specs.Prelude.{◌≡◌, Bool, not, [], ◌∷◌, ℕ, ◌-◌, ◌<◌, eqb, ℤ, pos, negsuc, ◌+ℤ◌, ◌-ℤ◌}
 use Rattle.std.specs.Int.Signed.{le_z}
-use Rattle.base.specs.Test.{if◌then◌else◌, all}
+use Rattle.base.specs.Test.{when◌then◌else◌, all}
 use Rattle.rows.specs.declared.row.Operation.TheVariants.{Add, Sub}
 use Rattle.alu.specs.declared.arithmetic.Computed.{Computed}
 use Rattle.alu.specs.Arithmetic.{bit15, computed}
@@ -9,7 +9,7 @@ use Rattle.alu.specs.Status.{gie, zero, without_flags, set_flags, keep_gie}
 
 -- the signed number that a 16-bit word stands for
 unfoldable pub signed : ℕ → ℤ
-signed w = if bit15 w then negsuc (0xFFFF - w) else pos w
+signed w = when bit15 w then negsuc (0xFFFF - w) else pos w
 
 -- a signed number of 16 bits: -32,768 to 32,767
 unfoldable pub fits16 : ℤ → Bool

@@ -1,6 +1,6 @@
 -- Tests that are true or false, taken apart and put together. Assumes nothing.
 use Rattle.std.proofs.Common.{◌≡◌, Bool, true, false, List, [], ◌∷◌, ◌++◌, sym, refl, ◌∙◌, true≢false}
-use Rattle.base.specs.Test.{if◌then◌else◌, all, any}
+use Rattle.base.specs.Test.{when◌then◌else◌, all, any}
 use Rattle.base.specs.FirstFailure.{Test, first_failure, holds_of}
 
 -- a Bool is one of two, with the equation
@@ -26,30 +26,30 @@ every (true ∷ ts) e = every ts e.1
 every (false ∷ ts) e = e.0
 
 -- a choice whose test is known
-pub if_true : {A : Type 0} (t : Bool) (a b : A) → t ≡ true → (if t then a else b) ≡ a
-unfolding if◌then◌else◌
-if_true t a b h = rw h
+pub when_true : {A : Type 0} (t : Bool) (a b : A) → t ≡ true → (when t then a else b) ≡ a
+unfolding when◌then◌else◌
+when_true t a b h = rw h
 
-pub if_false : {A : Type 0} (t : Bool) (a b : A) → t ≡ false → (if t then a else b) ≡ b
-unfolding if◌then◌else◌
-if_false t a b h = rw h
+pub when_false : {A : Type 0} (t : Bool) (a b : A) → t ≡ false → (when t then a else b) ≡ b
+unfolding when◌then◌else◌
+when_false t a b h = rw h
 
 -- a choice between true and false is its test
-pub if_id : (t : Bool) → (if t then true else false) ≡ t
-unfolding if◌then◌else◌
-if_id true = refl
-if_id false = refl
+pub when_id : (t : Bool) → (when t then true else false) ≡ t
+unfolding when◌then◌else◌
+when_id true = refl
+when_id false = refl
 
 -- a property of the branch that is taken, given what the test says
-pub choose : {A : Type 0} (P : A → Type 0) (t : Bool) {a b : A} → (t ≡ true → P a) → (t ≡ false → P b) → P (if t then a else b)
-unfolding if◌then◌else◌
+pub choose : {A : Type 0} (P : A → Type 0) (t : Bool) {a b : A} → (t ≡ true → P a) → (t ≡ false → P b) → P (when t then a else b)
+unfolding when◌then◌else◌
 choose P true p q = p refl
 choose P false p q = q refl
 
 -- two choices by one test are related where both branches are
 pub choose_both : {A B : Type 0} (R : A → B → Type 0) (t : Bool) {a c : A} {b d : B} → (t ≡ true → R a b) → (t ≡ false → R c d)
-    → R (if t then a else c) (if t then b else d)
-unfolding if◌then◌else◌
+    → R (when t then a else c) (when t then b else d)
+unfolding when◌then◌else◌
 choose_both R true p q = p refl
 choose_both R false p q = q refl
 
@@ -63,15 +63,15 @@ holds e h = sym e ∙ h
 -- what `f() && ..` of the code gives for `all`: where `f` fails, where it holds, and at the last test
 pub and_stop : {r t : Bool} (ts : List Bool) → r ≡ t → r ≡ false → r ≡ all (t ∷ ts)
 unfolding all
-and_stop ts e h = h ∙ sym (if_false _ _ _ (sym e ∙ h))
+and_stop ts e h = h ∙ sym (when_false _ _ _ (sym e ∙ h))
 
 pub and_then : {r s t : Bool} (ts : List Bool) → r ≡ t → r ≡ true → s ≡ all ts → s ≡ all (t ∷ ts)
 unfolding all
-and_then ts e h f = f ∙ sym (if_true _ _ _ (sym e ∙ h))
+and_then ts e h f = f ∙ sym (when_true _ _ _ (sym e ∙ h))
 
 pub and_last : {r t : Bool} → r ≡ t → r ≡ all (t ∷ [])
 unfolding all
-and_last e = e ∙ sym (if_id _)
+and_last e = e ∙ sym (when_id _)
 
 -- a test that cannot hold is false
 pub never : (t : Bool) → (t ≡ true → ⊥) → t ≡ false
@@ -105,17 +105,17 @@ pub none_fails : {A B : Type 0} (passed : B) (failed : A → B) → ((a : A) →
 unfolding first_failure
 none_fails passed failed apart [] e = tt
 none_fails passed failed apart (t ∷ ts) e =
-    cases t.holds (λ h. (h, none_fails passed failed apart ts (sym (if_true _ _ _ h) ∙ e)))
-    (λ h. absurd (apart t.failure (sym (if_false _ _ _ h) ∙ e)))
+    cases t.holds (λ h. (h, none_fails passed failed apart ts (sym (when_true _ _ _ h) ∙ e)))
+    (λ h. absurd (apart t.failure (sym (when_false _ _ _ h) ∙ e)))
 
 -- the first test that fails is told, whatever stands behind it
 pub first_fails : {A B : Type 0} (passed : B) (failed : A → B) (before : List (Test A)) (t : Test A) (after : List (Test A))
     → all (holds_of before) ≡ true → t.holds ≡ false → first_failure passed failed (before ++ (t ∷ after)) ≡ failed t.failure
 unfolding first_failure
-first_fails passed failed [] t after h f = if_false _ _ _ f
+first_fails passed failed [] t after h f = when_false _ _ _ f
 first_fails passed failed (u ∷ before) t after h f =
     let e = each (holds_of (u ∷ before)) h in
-    if_true _ _ _ e.0 ∙ first_fails passed failed before t after (every (holds_of before) e.1) f
+    when_true _ _ _ e.0 ∙ first_fails passed failed before t after (every (holds_of before) e.1) f
 
 -- where every test holds, none is told
 pub all_pass : {A B : Type 0} (passed : B) (failed : A → B) (ts : List (Test A)) → all (holds_of ts) ≡ true
@@ -123,4 +123,4 @@ pub all_pass : {A B : Type 0} (passed : B) (failed : A → B) (ts : List (Test A
 unfolding first_failure
 all_pass passed failed [] h = refl
 all_pass passed failed (t ∷ ts) h =
-    let e = each (holds_of (t ∷ ts)) h in if_true _ _ _ e.0 ∙ all_pass passed failed ts (every (holds_of ts) e.1)
+    let e = each (holds_of (t ∷ ts)) h in when_true _ _ _ e.0 ∙ all_pass passed failed ts (every (holds_of ts) e.1)

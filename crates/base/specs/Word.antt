@@ -1,6 +1,6 @@
 -- 16-bit words. A sum or a difference keeps its low 16 bits; a word access drops address bit 0.
 use Rattle.std.specs.Prelude.{ℕ, ◌+◌, ◌-◌, ◌*◌, ◌/◌, ◌%◌, Bool, ◌==◌, nat_lt}
-use Rattle.base.specs.Test.{if◌then◌else◌}
+use Rattle.base.specs.Test.{when◌then◌else◌}
 
 -- the low 16 bits
 abbrev pub low16 : ℕ → ℕ
@@ -24,4 +24,4 @@ is_even a = a % 2 == 0
 
 -- a number in 8 bits: what has more is 255, which is neither an age of a frame nor a register
 unfoldable pub byte_of : ℕ → ℕ
-byte_of n = if nat_lt 255 n then 255 else n
+byte_of n = when nat_lt 255 n then 255 else n

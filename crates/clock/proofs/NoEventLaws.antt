@@ -1,8 +1,8 @@
 -- Up to what clock value nothing happens. Assumes nothing.
 use Rattle.std.proofs.Common.{◌≡◌, ℕ, ◌+◌, ◌<◌, ◌≤◌, Bool, true, false, ltb, leb, sym, refl, ap, ◌∙◌, arith, leb-false, leb-true}
 use borrow.Author.Tests.{lt-leb}
-use Rattle.base.specs.Test.{if◌then◌else◌, all}
-use Rattle.base.proofs.Tests.{cases, if_true, if_false}
+use Rattle.base.specs.Test.{when◌then◌else◌, all}
+use Rattle.base.proofs.Tests.{cases, when_true, when_false}
 use Rattle.base.specs.Limits.{last_clock}
 use Rattle.definition.specs.Setting.{Setting}
 use Rattle.definition.specs.declared.state.Stamp.{Stamp}
@@ -25,10 +25,10 @@ pub not_happening_past : (clock until s : ℕ) → s ≤ clock → NotHappeningU
 not_happening_past clock until s h b k = passed_by clock b s h
 
 pub not_happening_ahead : (clock until s : ℕ) → until < s → NotHappeningUntil clock (At s) until
-unfolding happening all if◌then◌else◌
+unfolding happening all when◌then◌else◌
 not_happening_ahead clock until s h b k = rw (lt-leb s b (omega arith)) (neither (ltb clock s))
   where
-    neither : (t : Bool) → (if (if t then false else false) then At s else Never) ≡ Never
+    neither : (t : Bool) → (when (when t then false else false) then At s else Never) ≡ Never
     neither true = refl
     neither false = refl
 
@@ -44,7 +44,7 @@ alarm_stays : (a b : ℕ) (alarm : Stamp) → happening a b alarm ≡ Never → 
 unfolding happening alarm_left
 alarm_stays a b Never e = refl
 alarm_stays a b (At s) e =
-    cases (happens a b s) (λ h. if_true _ _ _ h ∙ sym (sym (if_true _ _ _ h) ∙ e)) (λ h. if_false _ _ _ h)
+    cases (happens a b s) (λ h. when_true _ _ _ h ∙ sym (sym (when_true _ _ _ h) ∙ e)) (λ h. when_false _ _ _ h)
 
 -- a filled slot stays
 filled_stays : (slot : Stamp) (s : ℕ) → slot ≡ At s → (r : Stamp) → filled_by slot r ≡ slot

@@ -1,7 +1,7 @@
 -- The earliest stamp of a timetable that happens is the upcoming one, if it happens. Assumes nothing.
 use Rattle.std.proofs.Common.{◌≡◌, ℕ, zero, suc, ◌+◌, ◌<◌, ◌≤◌, true, eqb, ltb, leb, List, [], ◌∷◌, length, get_or, refl, arith, ltb-false, ltb-true, le-ltb, lt-ltb, eqb-true, le-leb, leb-false}
 use borrow.Author.Tests.{eqb-false, lt-leb}
-use Rattle.base.specs.Test.{if◌then◌else◌, all}
+use Rattle.base.specs.Test.{when◌then◌else◌, all}
 use Rattle.base.proofs.Tests.{cases}
 use Rattle.definition.specs.declared.state.Stamp.{Stamp}
 use Rattle.definition.specs.declared.state.Stamp.TheVariants.{Never, At}
@@ -21,12 +21,12 @@ earlier_never (At s) = refl
 module _ (a b : ℕ) where
   -- a stamp that the clock has passed does not happen
   pub passed_by : (s : ℕ) → s ≤ a → happening a b (At s) ≡ Never
-  unfolding happening all if◌then◌else◌
+  unfolding happening all when◌then◌else◌
   passed_by s h = rw (le-ltb a s h)
 
   -- of two stamps that are still to happen, the later changes nothing
   sooner : (s t : ℕ) → a < s → s < t → earlier (happening a b (At s)) (happening a b (At t)) ≡ happening a b (At s)
-  unfolding happening earlier all if◌then◌else◌
+  unfolding happening earlier all when◌then◌else◌
   sooner s t h k =
       cases (leb s b)
       (λ e.
@@ -47,15 +47,15 @@ module _ (a b : ℕ) where
 
 -- the stamp at an index of no stamps, at the first index, at a later one
 stamp_none : (upcoming : ℕ) → stamp_at [] upcoming ≡ Never
-unfolding stamp_at if◌then◌else◌
+unfolding stamp_at when◌then◌else◌
 stamp_none upcoming = rw (le-ltb upcoming 0 (omega arith))
 
 stamp_first : (s : ℕ) (stamps : List ℕ) → stamp_at (s ∷ stamps) 0 ≡ At s
-unfolding stamp_at if◌then◌else◌
+unfolding stamp_at when◌then◌else◌
 stamp_first s stamps = rw (lt-ltb 0 (suc (length stamps)) (omega arith))
 
 stamp_later : (s : ℕ) (stamps : List ℕ) (upcoming : ℕ) → stamp_at (s ∷ stamps) (suc upcoming) ≡ stamp_at stamps upcoming
-unfolding stamp_at if◌then◌else◌
+unfolding stamp_at when◌then◌else◌
 stamp_later s stamps upcoming =
     cases (ltb upcoming (length stamps))
     (λ e. simp (e, lt-ltb (suc upcoming) (suc (length stamps)) (omega (arith, ltb-true upcoming (length stamps) e))))

@@ -1,13 +1,13 @@
 -- The upcoming stamp of a timetable, by its index: the first that is above the clock.
 use Rattle.std.specs.Prelude.{◌≡◌, ℕ, ◌+◌, ◌^◌, ◌<◌, ◌≤◌, true, List, length, nat_lt, slice_index}
-use Rattle.base.specs.Test.{if◌then◌else◌}
+use Rattle.base.specs.Test.{when◌then◌else◌}
 use Rattle.definition.specs.declared.state.Stamp.{Stamp}
 use Rattle.definition.specs.declared.state.Stamp.TheVariants.{Never, At}
 use Rattle.definition.specs.Calls.{timetable}
 
 -- the stamp at an index, if there is one
 unfoldable pub stamp_at : List ℕ → ℕ → Stamp
-stamp_at stamps upcoming = if nat_lt upcoming (length stamps) then At (slice_index stamps upcoming) else Never
+stamp_at stamps upcoming = when nat_lt upcoming (length stamps) then At (slice_index stamps upcoming) else Never
 
 -- the clock has passed the stamps before this index: none of them is above it
 pub record StampsPassed (stamps : List ℕ) (clock upcoming : ℕ) : Type 0 where

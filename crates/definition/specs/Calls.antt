@@ -1,6 +1,6 @@
 -- What callers get: the first refusal in order, with the machine and memory as they came; or the definition's result.
 use Rattle.std.specs.Prelude.{ℕ, Bool, true, false, List, [], ◌∷◌, ◌++◌, leb, ltb, eqb, length}
-use Rattle.base.specs.Test.{if◌then◌else◌, all}
+use Rattle.base.specs.Test.{when◌then◌else◌, all}
 use Rattle.base.specs.FirstFailure.{Test, test}
 use Rattle.base.specs.Limits.{memory_bytes, last_clock, most_stamps, most_budget}
 use Rattle.base.specs.Verdict.{verdict}
@@ -27,7 +27,7 @@ whole_memory mem = eqb (length mem) memory_bytes
 -- each stamp is above the one before it and at most 2^62
 unfoldable pub rising_from : ℕ → List ℕ → Bool
 rising_from a [] = true
-rising_from a (s ∷ stamps) = if all (ltb a s ∷ leb s last_clock ∷ []) then rising_from s stamps else false
+rising_from a (s ∷ stamps) = when all (ltb a s ∷ leb s last_clock ∷ []) then rising_from s stamps else false
 
 -- at most 4,096 stamps, strictly rising, each 1 to 2^62
 unfoldable pub timetable : List ℕ → Bool

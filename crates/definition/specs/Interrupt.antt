@@ -1,6 +1,6 @@
 -- Reset, and the three ways that a service starts: plain, padded, chained; and the return from a held visit.
 use Rattle.std.specs.Prelude.{ℕ, ◌-◌, min, Bool, true, false, List, [], ◌∷◌, set}
-use Rattle.base.specs.Test.{if◌then◌else◌, all}
+use Rattle.base.specs.Test.{when◌then◌else◌, all}
 use Rattle.base.specs.Word.{difference16}
 use Rattle.layout.specs.Sections.{outside}
 use Rattle.alu.specs.Status.{gie}
@@ -36,7 +36,7 @@ age_of clock stamp = min (clock - stamp) 6
 
 -- the interrupt that is due: GIE set and the slot filled
 unfoldable pub due : State → Stamp
-due m = if gie (sr m.registers) then m.time.slot else Never
+due m = when gie (sr m.registers) then m.time.slot else Never
 
 module _ (S : Setting) where
   -- reset: 4 cycles pass; then the slot empties, any held visit is dropped, registers become 0, pc the reset vector's word
@@ -48,7 +48,7 @@ module _ (S : Setting) where
   plain m mem =
       let high = difference16 (sp m.registers) 2 in
       let low = difference16 (sp m.registers) 4 in
-      if all (outside S.layout high ∷ outside S.layout low ∷ []) then
+      when all (outside S.layout high ∷ outside S.layout low ∷ []) then
       gives
       (from_vector (set (set (set m.registers 1 low) 2 0) 0 S.layout.service) (pass S 6 (emptied m.time)) m.context m.saved)
       (put_word (put_word mem high (pc m.registers)) low (sr m.registers)) Plain

@@ -7,7 +7,7 @@ use Rattle.base.specs.Refusal.{refusal_number}
 use Rattle.base.specs.FirstFailure.{Test}
 use Rattle.base.specs.Limits.{last_clock}
 use Rattle.base.specs.Verdict.{verdict}
-use Rattle.base.specs.Test.{if◌then◌else◌, all}
+use Rattle.base.specs.Test.{when◌then◌else◌, all}
 use Rattle.base.specs.Word.{drop_bit0, sum16}
 use Rattle.rows.specs.Words.{begun, two_words}
 use Rattle.isa.specs.declared.instruction.Instruction.{Instruction}
@@ -264,7 +264,7 @@ RunAdds =
 -- the numbers of a list of tests rise
 unfoldable pub in_order : ℕ → List (Test Refusal) → Bool
 in_order n [] = true
-in_order n (t ∷ tests) = if ltb n (refusal_number t.failure) then in_order (refusal_number t.failure) tests else false
+in_order n (t ∷ tests) = when ltb n (refusal_number t.failure) then in_order (refusal_number t.failure) tests else false
 
 -- every call makes its tests in the order of their numbers
 unfoldable pub RefusalsInOrder : Type 0

@@ -1,6 +1,6 @@
 -- Many steps: a run stops at the first of halted, clock above 2^62, budget spent.
 use Rattle.std.specs.Prelude.{ℕ, zero, suc, ◌+◌, List, [], ◌∷◌, ltb}
-use Rattle.base.specs.Test.{if◌then◌else◌}
+use Rattle.base.specs.Test.{when◌then◌else◌}
 use Rattle.base.specs.Limits.{last_clock}
 use Rattle.definition.specs.Setting.{Setting}
 use Rattle.definition.specs.declared.state.State.{State}
@@ -17,7 +17,7 @@ pub data Going : Type 0 where
 
 -- the ends before the budget, in order
 unfoldable pub ending : State → Going
-ending m = if m.halted then stops Halted else if ltb last_clock m.time.clock then stops Clock else goes
+ending m = when m.halted then stops Halted else when ltb last_clock m.time.clock then stops Clock else goes
 
 -- where a run stopped: the world there, why, and how many steps it made
 pub record Stop : Type 0 where

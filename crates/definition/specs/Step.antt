@@ -1,6 +1,6 @@
 -- One step: judged, then acting, then its cycles, then the interrupt.
 use Rattle.std.specs.Prelude.{ℕ, Bool, true, false, List}
-use Rattle.base.specs.Test.{if◌then◌else◌}
+use Rattle.base.specs.Test.{when◌then◌else◌}
 use Rattle.isa.specs.declared.instruction.Instruction.{Instruction}
 use Rattle.isa.specs.declared.instruction.Instruction.TheVariants.{Hlt, In, Out, Jz, Reti, Nop, Jmp, Mov, Store, Compute, Not}
 use Rattle.isa.specs.Cycles.{cycles_of}
@@ -71,7 +71,7 @@ module _ (S : Setting) where
   ordinary m mem i =
       let next = executed m mem i in
       let bytes = memory_after m.registers mem i in
-      if next.halted then gives next bytes Halted
+      when next.halted then gives next bytes Halted
       else interrupted S (inside S.layout (pc m.registers)) Ran next bytes (due next)
 
   -- RETI to a held visit, its cycles passed
@@ -82,7 +82,7 @@ module _ (S : Setting) where
   unfoldable pub performed : State → List ℕ → SavedContext → Instruction → Step
   performed m mem Unheld i = ordinary m mem i
   performed m mem (Held previous age) i =
-      if is_reti i then returning m mem (pass S (cycles_of i) m.time) previous age else ordinary m mem i
+      when is_reti i then returning m mem (pass S (cycles_of i) m.time) previous age else ordinary m mem i
 
   -- a cause resets, an instruction acts
   unfoldable pub step_judged : State → List ℕ → Judged → Step
@@ -97,5 +97,5 @@ module _ (S : Setting) where
   -- one step; a halted machine answers "halted" unchanged
   unfoldable pub step : State → List ℕ → Step
   step m mem =
-      if m.halted then gives m mem Halted
+      when m.halted then gives m mem Halted
       else step_judged m mem (judged (world m mem))

@@ -7,9 +7,9 @@ use native.Mathlib.Omega.{arith}
 use lib.Dec.{ltb, eqb}
 use lib.ListN.{set}
 use borrow.Author.Tests.{ltb-false, ne_eqb, not-false}
-use Rattle.base.specs.Test.{if◌then◌else◌}
+use Rattle.base.specs.Test.{when◌then◌else◌}
 use Rattle.base.specs.Word.{drop_bit0}
-use Rattle.base.proofs.Tests.{every, if_true, if_false, choose}
+use Rattle.base.proofs.Tests.{every, when_true, when_false, choose}
 use Rattle.rows.specs.declared.row.Operation.{Operation}
 use Rattle.rows.specs.declared.row.Operation.TheVariants.{Add, Sub, Cmp, And}
 use Rattle.rows.specs.declared.row.Row.{Row}
@@ -63,8 +63,8 @@ module _ (L : Layout) (held : Bool) (rs mem : List ℕ) where
       → all_may L (pc rs) write (writes rs i) ≡ true → judge_act L held rs i ≡ Acts i
   unfolding judge_act
   acting i p r h k =
-      if_false _ _ _ (second_fails _ _ p) ∙ if_false _ _ _ (second_fails held _ r) ∙ if_false _ _ _ (ap not h)
-      ∙ if_false _ _ _ (ap not k)
+      when_false _ _ _ (second_fails _ _ p) ∙ when_false _ _ _ (second_fails held _ r) ∙ when_false _ _ _ (ap not h)
+      ∙ when_false _ _ _ (ap not k)
 
   -- what is begun acts, and the effect is what it does
   pub record Acting (b : Begun) (x y : ℕ) (e : Effect) : Type 0 where
@@ -87,13 +87,13 @@ module _ (L : Layout) (held : Bool) (rs mem : List ℕ) where
   EffectAgrees b x y (Fast e) = Acting b x y e
 
   -- what is fast only where a test fails, or holds
-  pub unless : (b : Begun) (x y : ℕ) (t : Bool) (q : Speed) → (t ≡ false → EffectAgrees b x y q) → EffectAgrees b x y (if t then Slow else q)
-  unfolding if◌then◌else◌
+  pub unless : (b : Begun) (x y : ℕ) (t : Bool) (q : Speed) → (t ≡ false → EffectAgrees b x y q) → EffectAgrees b x y (when t then Slow else q)
+  unfolding when◌then◌else◌
   unless b x y true q p = tt
   unless b x y false q p = p refl
 
-  pub provided : (b : Begun) (x y : ℕ) (t : Bool) (q : Speed) → (t ≡ true → EffectAgrees b x y q) → EffectAgrees b x y (if t then q else Slow)
-  unfolding if◌then◌else◌
+  pub provided : (b : Begun) (x y : ℕ) (t : Bool) (q : Speed) → (t ≡ true → EffectAgrees b x y q) → EffectAgrees b x y (when t then q else Slow)
+  unfolding when◌then◌else◌
   provided b x y true q p = p refl
   provided b x y false q p = tt
 
@@ -103,7 +103,7 @@ module _ (L : Layout) (held : Bool) (rs mem : List ℕ) where
     Fine row q = EffectAgrees (Found row s d) x y q
 
     pub nop_agrees : Fine NOP (leading_on (pc rs) Nop (sr rs) false)
-    unfolding judge_first judge_second judge_words two_words finished all_may registers_after memory_after past put_if if◌then◌else◌
+    unfolding judge_first judge_second judge_words two_words finished all_may registers_after memory_after past put_if when◌then◌else◌
     nop_agrees =
         record {
           instruction = Nop;
@@ -121,7 +121,7 @@ module _ (L : Layout) (held : Bool) (rs mem : List ℕ) where
         }
 
     pub jmp_agrees : Fine JMP (setting_pc (Jmp s) (drop_bit0 (register rs s)) (sr rs) false)
-    unfolding judge_first judge_second judge_words two_words finished all_may registers_after memory_after past put_if write_register if◌then◌else◌
+    unfolding judge_first judge_second judge_words two_words finished all_may registers_after memory_after past put_if write_register when◌then◌else◌
     jmp_agrees =
         record {
           instruction = Jmp s;
@@ -139,22 +139,22 @@ module _ (L : Layout) (held : Bool) (rs mem : List ℕ) where
         }
 
     jz_acts : judge_first L held rs mem (Found JZ s d) ≡ Acts (Jz s)
-    unfolding judge_first judge_second judge_words two_words finished all_may if◌then◌else◌
+    unfolding judge_first judge_second judge_words two_words finished all_may when◌then◌else◌
     jz_acts = acting (Jz s) refl refl refl refl
 
     jz_decodes : finished (Found JZ s d) (word_at mem (second_address (pc rs))) ≡ Decoded (Jz s) (length_of (Jz s))
     unfolding finished
-    jz_decodes = if_true _ _ _ refl
+    jz_decodes = when_true _ _ _ refl
 
     jz_jumps : zero_set (sr rs) ≡ true → (t : Bool) (device : ℕ)
         → registers_after t rs device mem (Jz s) ≡ set (set (set rs 0 (drop_bit0 (register rs s))) 0 (drop_bit0 (register rs s))) 2 (sr rs)
-    unfolding registers_after past write_register if◌then◌else◌
-    jz_jumps h t device = if_true _ _ _ h ∙ (set_twice rs 0 _ _ ∙ pc_set rs _)
+    unfolding registers_after past write_register when◌then◌else◌
+    jz_jumps h t device = when_true _ _ _ h ∙ (set_twice rs 0 _ _ ∙ pc_set rs _)
 
     jz_passes : zero_set (sr rs) ≡ false → (t : Bool) (device : ℕ)
         → registers_after t rs device mem (Jz s) ≡ set (set (set rs 0 (address_past (pc rs) (Jz s))) 0 (address_past (pc rs) (Jz s))) 2 (sr rs)
     unfolding registers_after past
-    jz_passes h t device = if_false _ _ _ h ∙ pc_set rs _
+    jz_passes h t device = when_false _ _ _ h ∙ pc_set rs _
 
     pub jz_agrees : Fine JZ (branching (pc rs) (sr rs) (register rs s) s)
     unfolding branching memory_after put_if
@@ -167,7 +167,7 @@ module _ (L : Layout) (held : Bool) (rs mem : List ℕ) where
           unbarred = refl;
           other = refl;
           sets = jz_jumps h;
-          puts = sym (if_false _ _ _ refl);
+          puts = sym (when_false _ _ _ refl);
           takes = refl;
           decodes = jz_decodes;
           leads = λ e. absurd (true≢false (sym h ∙ e));
@@ -181,7 +181,7 @@ module _ (L : Layout) (held : Bool) (rs mem : List ℕ) where
           unbarred = refl;
           other = refl;
           sets = jz_passes h;
-          puts = sym (if_false _ _ _ refl);
+          puts = sym (when_false _ _ _ refl);
           takes = refl;
           decodes = jz_decodes;
           leads = λ e. refl;
@@ -205,7 +205,7 @@ module _ (L : Layout) (held : Bool) (rs mem : List ℕ) where
           unbarred = p;
           other = r;
           sets = sets (ltb-false d 4 h);
-          puts = m ∙ sym (if_false _ _ _ refl);
+          puts = m ∙ sym (when_false _ _ _ refl);
           takes = refl;
           decodes = f;
           leads = λ e. refl;
@@ -215,23 +215,23 @@ module _ (L : Layout) (held : Bool) (rs mem : List ℕ) where
         })
 
     pub mov_agrees : Fine MOV (setting_on (pc rs) (Mov (Register s) d) d (register rs s) (sr rs))
-    unfolding judge_first judge_second judge_words two_words finished all_may registers_after memory_after past if◌then◌else◌
+    unfolding judge_first judge_second judge_words two_words finished all_may registers_after memory_after past when◌then◌else◌
     mov_agrees =
         let i : Instruction = Mov (Register s) d in
         setting_agrees MOV _ _ i (acting i refl refl refl refl) refl refl refl (λ h t device. moved rs _ t d _ h) refl refl
 
     pub load_agrees : Fine LOAD
-        (if may L (pc rs) read (drop_bit0 (register rs s)) then setting_on (pc rs) (Mov (Pointed s) d) d (word_at mem (register rs s)) (sr rs) else Slow)
+        (when may L (pc rs) read (drop_bit0 (register rs s)) then setting_on (pc rs) (Mov (Pointed s) d) d (word_at mem (register rs s)) (sr rs) else Slow)
     unfolding judge_first judge_second judge_words two_words finished all_may registers_after memory_after past
     load_agrees =
         let i : Instruction = Mov (Pointed s) d in
         provided (Found LOAD s d) x y (may L (pc rs) read (drop_bit0 (register rs s))) (setting_on (pc rs) i d (word_at mem (register rs s)) (sr rs))
         (λ k. setting_agrees LOAD _ _ i
-        (if_false _ _ _ refl ∙ ap (judge_words L held rs) (if_true _ _ _ refl) ∙ acting i refl refl (if_true _ _ _ k) refl)
-        (if_true _ _ _ refl) refl refl (λ h t device. moved rs _ t d _ h) refl refl)
+        (when_false _ _ _ refl ∙ ap (judge_words L held rs) (when_true _ _ _ refl) ∙ acting i refl refl (when_true _ _ _ k) refl)
+        (when_true _ _ _ refl) refl refl (λ h t device. moved rs _ t d _ h) refl refl)
 
     pub constant_agrees : Fine IMMEDIATE
-        (if same_side L (pc rs) (second_address (pc rs)) then
+        (when same_side L (pc rs) (second_address (pc rs)) then
         immediate (pc rs) (sr rs) (word_at mem (second_address (pc rs))) d
         else Slow)
     unfolding judge_first judge_second judge_words two_words finished all_may registers_after memory_after past
@@ -240,21 +240,21 @@ module _ (L : Layout) (held : Bool) (rs mem : List ℕ) where
         let i : Instruction = Mov (Constant w) d in
         provided (Found IMMEDIATE s d) x y (same_side L (pc rs) (second_address (pc rs))) (immediate (pc rs) (sr rs) w d)
         (λ k. setting_agrees IMMEDIATE _ _ i
-        (if_true _ _ _ refl ∙ if_true _ _ _ k ∙ ap (judge_words L held rs) (if_true _ _ _ refl) ∙ acting i refl refl refl refl)
-        (if_true _ _ _ refl) refl refl (λ h t device. moved rs _ t d _ h) refl refl)
+        (when_true _ _ _ refl ∙ when_true _ _ _ k ∙ ap (judge_words L held rs) (when_true _ _ _ refl) ∙ acting i refl refl refl refl)
+        (when_true _ _ _ refl) refl refl (λ h t device. moved rs _ t d _ h) refl refl)
 
     compute_acts : (o : Operation) → judge_first L held rs mem (Found (COMPUTE o) s d) ≡ Acts (Compute o s d)
-    unfolding judge_first judge_second judge_words two_words finished all_may if◌then◌else◌
+    unfolding judge_first judge_second judge_words two_words finished all_may when◌then◌else◌
     compute_acts o = acting (Compute o s d) refl refl refl refl
 
     pub compute_agrees : (o : Operation)
         → Fine (COMPUTE o) (computing (pc rs) (sr rs) o s d (computed o (register rs s) (register rs d)))
     unfolding finished registers_after memory_after past put_if FlagsOnly
     compute_agrees Add =
-        setting_agrees (COMPUTE Add) _ _ (Compute Add s d) (compute_acts Add) (if_true _ _ _ refl) refl refl
+        setting_agrees (COMPUTE Add) _ _ (Compute Add s d) (compute_acts Add) (when_true _ _ _ refl) refl refl
         (λ h t device. stored rs _ t d _ h _) refl (flags_only (sr rs) _).1
     compute_agrees Sub =
-        setting_agrees (COMPUTE Sub) _ _ (Compute Sub s d) (compute_acts Sub) (if_true _ _ _ refl) refl refl
+        setting_agrees (COMPUTE Sub) _ _ (Compute Sub s d) (compute_acts Sub) (when_true _ _ _ refl) refl refl
         (λ h t device. stored rs _ t d _ h _) refl (flags_only (sr rs) _).1
     compute_agrees Cmp =
         record {
@@ -263,43 +263,43 @@ module _ (L : Layout) (held : Bool) (rs mem : List ℕ) where
           unbarred = refl;
           other = refl;
           sets = λ t device. compared rs _ _;
-          puts = sym (if_false _ _ _ refl);
+          puts = sym (when_false _ _ _ refl);
           takes = refl;
-          decodes = if_true _ _ _ refl;
+          decodes = when_true _ _ _ refl;
           leads = λ e. refl;
           digit = omega arith;
           general = λ e. absurd (omega arith);
           gie_kept = (flags_only (sr rs) _).1;
         }
     compute_agrees And =
-        setting_agrees (COMPUTE And) _ _ (Compute And s d) (compute_acts And) (if_true _ _ _ refl) refl refl
+        setting_agrees (COMPUTE And) _ _ (Compute And s d) (compute_acts And) (when_true _ _ _ refl) refl refl
         (λ h t device. stored rs _ t d _ h _) refl (flags_only (sr rs) _).1
 
   -- MOV s 0(d), which puts its source
   pub store_agrees : (s d : ℕ) → EffectAgrees (Found STORE s d) (register rs s) (register rs d)
-      (if not (same_side L (pc rs) (second_address (pc rs))) then Slow
-      else if not (eqb (word_at mem (second_address (pc rs))) 0) then Slow
-      else if may L (pc rs) write (drop_bit0 (register rs d)) then leading_on (pc rs) (Store s d) (sr rs) true
+      (when not (same_side L (pc rs) (second_address (pc rs))) then Slow
+      else when not (eqb (word_at mem (second_address (pc rs))) 0) then Slow
+      else when may L (pc rs) write (drop_bit0 (register rs d)) then leading_on (pc rs) (Store s d) (sr rs) true
       else Slow)
   unfolding judge_first judge_second judge_words two_words finished all_may registers_after memory_after past put_if
   store_agrees s d =
       let done : Speed = leading_on (pc rs) (Store s d) (sr rs) true in
       let may-put : Bool = may L (pc rs) write (drop_bit0 (register rs d)) in
-      let two : Speed = if may-put then done else Slow in
+      let two : Speed = when may-put then done else Slow in
       let wrong : Bool = not (eqb (word_at mem (second_address (pc rs))) 0) in
-      unless (Found STORE s d) _ _ _ (if wrong then Slow else two)
+      unless (Found STORE s d) _ _ _ (when wrong then Slow else two)
       (λ k. unless (Found STORE s d) _ _ wrong two
       (λ l. provided (Found STORE s d) _ _ may-put done
       (λ h. record {
         instruction = Store s d;
-        acts = if_true _ _ _ refl ∙ if_true _ _ _ (not-false _ k) ∙ ap (judge_words L held rs) (if_true _ _ _ (not-false _ l))
-            ∙ acting (Store s d) refl refl refl (if_true _ _ _ h);
+        acts = when_true _ _ _ refl ∙ when_true _ _ _ (not-false _ k) ∙ ap (judge_words L held rs) (when_true _ _ _ (not-false _ l))
+            ∙ acting (Store s d) refl refl refl (when_true _ _ _ h);
         unbarred = refl;
         other = refl;
         sets = λ t device. pc_set rs _;
-        puts = sym (if_true _ _ _ refl);
+        puts = sym (when_true _ _ _ refl);
         takes = refl;
-        decodes = if_true _ _ _ (not-false _ l);
+        decodes = when_true _ _ _ (not-false _ l);
         leads = λ e. refl;
         digit = omega arith;
         general = λ e. absurd (omega arith);

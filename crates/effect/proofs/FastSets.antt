@@ -6,7 +6,7 @@ use Prim.Native.Nat.{ℕ, zero, suc, ◌≤◌}
 use native.Mathlib.Omega.{arith}
 use lib.ListN.{set}
 use borrow.Author.Tests.{ne_eqb, lt-leb}
-use Rattle.base.proofs.Tests.{if_false}
+use Rattle.base.proofs.Tests.{when_false}
 use Rattle.alu.specs.declared.arithmetic.Computed.{Computed}
 use Rattle.alu.specs.Status.{set_flags}
 use Rattle.definition.specs.Registers.{register, sr, write as write_register}
@@ -48,8 +48,8 @@ module _ (rs : List ℕ) (to : ℕ) where
     general : write_register t (set rs 0 to) d w ≡ set (set rs 0 to) d w
     unfolding write_register
     general =
-        if_false _ _ _ (ne_eqb d 3 (λ e. absurd (omega arith))) ∙ if_false _ _ _ (lt-leb d 1 (omega arith))
-        ∙ if_false _ _ _ (first_fails _ t (ne_eqb d 2 (λ e. absurd (omega arith))))
+        when_false _ _ _ (ne_eqb d 3 (λ e. absurd (omega arith))) ∙ when_false _ _ _ (lt-leb d 1 (omega arith))
+        ∙ when_false _ _ _ (first_fails _ t (ne_eqb d 2 (λ e. absurd (omega arith))))
 
     status_general : sr (set (set rs 0 to) d w) ≡ sr rs
     status_general = status_set _ d w (λ e. absurd (omega arith)) ∙ status_set rs 0 to (λ e. absurd (omega arith))

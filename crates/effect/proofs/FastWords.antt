@@ -6,9 +6,9 @@ use Prim.Native.Nat.{ℕ, ◌+◌, ◌*◌, ◌/◌, ◌%◌, ◌≤◌, ◌<◌
 use native.Mathlib.Omega.{arith}
 use lib.Dec.{ltb, eqb}
 use borrow.Author.Tests.{ltb-false, eqb-true, not-false}
-use Rattle.base.specs.Test.{if◌then◌else◌, all}
+use Rattle.base.specs.Test.{when◌then◌else◌, all}
 use Rattle.base.specs.Word.{drop_bit0}
-use Rattle.base.proofs.Tests.{cases, each, every, if_true, choose}
+use Rattle.base.proofs.Tests.{cases, each, every, when_true, choose}
 use Rattle.rows.specs.declared.row.Operation.{Operation}
 use Rattle.rows.specs.declared.row.Operation.TheVariants.{Add, Sub, Cmp, And}
 use Rattle.rows.specs.declared.row.Row.{Row}
@@ -50,7 +50,7 @@ module _ (L : Layout) (held : Bool) (rs mem : List ℕ) (w : ℕ) where
       → Word (setting_register i to (w % 16) v status)
   unfolding setting_register_in
   when_general i to v status f =
-      cases (ltb (w % 16) 4) (λ h. subst Word (sym (if_true _ _ _ h)) tt) (λ h. f (ltb-false _ 4 h))
+      cases (ltb (w % 16) 4) (λ h. subst Word (sym (when_true _ _ _ h)) tt) (λ h. f (ltb-false _ 4 h))
 
   low : w % 16 < 16
   low = omega arith
@@ -85,7 +85,7 @@ module _ (L : Layout) (held : Bool) (rs mem : List ℕ) (w : ℕ) where
         let x = register rs (w / 256 % 16) in
         let i : Instruction = Mov (Pointed (w / 256 % 16)) (w % 16) in
         let q : Speed =
-        if may L (pc rs) read (drop_bit0 x) then setting_on (pc rs) i (w % 16) (word_at mem x) (sr rs) else Slow in
+        when may L (pc rs) read (drop_bit0 x) then setting_on (pc rs) i (w % 16) (word_at mem x) (sr rs) else Slow in
         unless L held rs mem (begun w) x (register rs (w % 16)) (ltb (w / 256 % 16) 4) q
         (λ h.
         let k = ltb-false (w / 256 % 16) 4 h in
@@ -98,7 +98,7 @@ module _ (L : Layout) (held : Bool) (rs mem : List ℕ) (w : ℕ) where
         let x = register rs (w / 256 % 16) in
         let second = second_address (pc rs) in
         let q : Speed =
-        if same_side L (pc rs) second then immediate (pc rs) (sr rs) (word_at mem second) (w % 16) else Slow in
+        when same_side L (pc rs) second then immediate (pc rs) (sr rs) (word_at mem second) (w % 16) else Slow in
         unless L held rs mem (begun w) x (register rs (w % 16)) (not (eqb (w / 256 % 16) 0)) q
         (λ h.
         let k = eqb-true (w / 256 % 16) 0 (not-false _ h) in
@@ -112,9 +112,9 @@ module _ (L : Layout) (held : Bool) (rs mem : List ℕ) (w : ℕ) where
         let i : Instruction = Store (w / 256 % 16) (w % 16) in
         let second = second_address (pc rs) in
         let q : Speed =
-        if not (same_side L (pc rs) second) then Slow
-        else if not (eqb (word_at mem second) 0) then Slow
-        else if may L (pc rs) write (drop_bit0 y) then leading_on (pc rs) i (sr rs) true
+        when not (same_side L (pc rs) second) then Slow
+        else when not (eqb (word_at mem second) 0) then Slow
+        else when may L (pc rs) write (drop_bit0 y) then leading_on (pc rs) i (sr rs) true
         else Slow in
         unless L held rs mem (begun w) (register rs (w / 256 % 16)) y (ltb (w % 16) 4) q
         (λ h.

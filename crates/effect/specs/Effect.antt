@@ -1,7 +1,7 @@
 -- The fast way of a step: a common instruction of which no interrupt can come sets pc, one more register and the status, or puts a word.
 -- It looks at no other register than it is handed, and is proved to do what the step does.
 use Rattle.std.specs.Prelude.{Bool, true, false, not, List, [], ◌∷◌, ℕ, ◌*◌, ◌/◌, ◌%◌, ltb, eqb, set}
-use Rattle.base.specs.Test.{if◌then◌else◌, all}
+use Rattle.base.specs.Test.{when◌then◌else◌, all}
 use Rattle.base.specs.Word.{drop_bit0, sum16}
 use Rattle.rows.specs.declared.row.Operation.{Operation}
 use Rattle.rows.specs.declared.row.Operation.TheVariants.{Add, Sub, Cmp, And}
@@ -27,7 +27,7 @@ affected e rs = set (set (set rs 0 e.to) e.number e.word) 2 e.status
 
 -- the word that is put, if one is
 unfoldable pub put_if : Bool → List ℕ → ℕ → ℕ → List ℕ
-put_if puts mem a w = if puts then put_word mem a w else mem
+put_if puts mem a w = when puts then put_word mem a w else mem
 
 -- the address past the instruction at a, by its length in words
 abbrev pub address_past : ℕ → Instruction → ℕ
@@ -44,7 +44,7 @@ setting_pc_in to status puts cycles = Fast (record { to = to; number = 0; word =
 -- pc is set, and a register above r3, to which no rule of writing applies, in this many cycles
 unfoldable pub setting_register_in : ℕ → ℕ → ℕ → ℕ → ℕ → Speed
 setting_register_in to d w status cycles =
-    if ltb d 4 then Slow
+    when ltb d 4 then Slow
     else Fast (record { to = to; number = d; word = w; status = status; puts = false; cycles = cycles })
 
 -- only pc is set, in the cycles of an instruction
@@ -74,19 +74,19 @@ module _ (a status : ℕ) where
 
   -- those by the third digit
   unfoldable pub grouped : ℕ → ℕ → Operation → ℕ → ℕ → ℕ → Speed
-  grouped x y o s c d = if eqb c 0 then computing o s d (computed o x y) else Slow
+  grouped x y o s c d = when eqb c 0 then computing o s d (computed o x y) else Slow
 
   -- JZ: 003s
   unfoldable pub branching : ℕ → ℕ → Speed
   branching x s =
-      if zero status then setting_pc (Jz s) (drop_bit0 x) status false
+      when zero status then setting_pc (Jz s) (drop_bit0 x) status false
       else leading_on a (Jz s) status false
 
   -- 4s0d: JMP, NOP, MOV s d
   unfoldable pub registering : ℕ → ℕ → ℕ → Speed
   registering x s d =
-      if eqb d 0 then setting_pc (Jmp s) (drop_bit0 x) status false
-      else if all (eqb s 3 ∷ eqb d 3 ∷ []) then leading_on a Nop status false
+      when eqb d 0 then setting_pc (Jmp s) (drop_bit0 x) status false
+      else when all (eqb s 3 ∷ eqb d 3 ∷ []) then leading_on a Nop status false
       else setting_on a (Mov (Register s) d) d x status
 
   -- MOV #w d
@@ -97,42 +97,42 @@ module _ (a status : ℕ) where
     -- 4s2d: MOV @s d
     unfoldable pub loading : ℕ → ℕ → ℕ → Speed
     loading x s d =
-        if ltb s 4 then Slow
-        else if may L a read (drop_bit0 x) then setting_on a (Mov (Pointed s) d) d (word_at mem x) status
+        when ltb s 4 then Slow
+        else when may L a read (drop_bit0 x) then setting_on a (Mov (Pointed s) d) d (word_at mem x) status
         else Slow
 
     -- 403d: MOV #w d
     unfoldable pub constant : ℕ → ℕ → Speed
     constant s d =
-        if not (eqb s 0) then Slow
-        else if same_side L a (second_address a) then immediate (word_at mem (second_address a)) d
+        when not (eqb s 0) then Slow
+        else when same_side L a (second_address a) then immediate (word_at mem (second_address a)) d
         else Slow
 
     -- 4s8d: MOV s 0(d)
     unfoldable pub storing : ℕ → ℕ → ℕ → Speed
     storing y s d =
-        if ltb d 4 then Slow
-        else if not (same_side L a (second_address a)) then Slow
-        else if not (eqb (word_at mem (second_address a)) 0) then Slow
-        else if may L a write (drop_bit0 y) then leading_on a (Store s d) status true
+        when ltb d 4 then Slow
+        else when not (same_side L a (second_address a)) then Slow
+        else when not (eqb (word_at mem (second_address a)) 0) then Slow
+        else when may L a write (drop_bit0 y) then leading_on a (Store s d) status true
         else Slow
 
     -- 4scd: the moves
     unfoldable pub moving : ℕ → ℕ → ℕ → ℕ → ℕ → Speed
     moving x y s c d =
-        if eqb c 0 then registering x s d
-        else if eqb c 2 then loading x s d
-        else if eqb c 3 then constant s d
-        else if eqb c 8 then storing y s d
+        when eqb c 0 then registering x s d
+        else when eqb c 2 then loading x s d
+        else when eqb c 3 then constant s d
+        else when eqb c 8 then storing y s d
         else Slow
 
     -- by the first word's digits; whatever else there is, is left to the step
     unfoldable pub fast_effect : ℕ → ℕ → ℕ → Speed
     fast_effect x y w =
-        if eqb (w / 4096) 4 then moving x y (w / 256 % 16) (w / 16 % 16) (w % 16)
-        else if eqb (w / 4096) 5 then grouped x y Add (w / 256 % 16) (w / 16 % 16) (w % 16)
-        else if eqb (w / 4096) 8 then grouped x y Sub (w / 256 % 16) (w / 16 % 16) (w % 16)
-        else if eqb (w / 4096) 9 then grouped x y Cmp (w / 256 % 16) (w / 16 % 16) (w % 16)
-        else if eqb (w / 4096) 15 then grouped x y And (w / 256 % 16) (w / 16 % 16) (w % 16)
-        else if eqb (w / 16) 3 then branching y (w % 16)
+        when eqb (w / 4096) 4 then moving x y (w / 256 % 16) (w / 16 % 16) (w % 16)
+        else when eqb (w / 4096) 5 then grouped x y Add (w / 256 % 16) (w / 16 % 16) (w % 16)
+        else when eqb (w / 4096) 8 then grouped x y Sub (w / 256 % 16) (w / 16 % 16) (w % 16)
+        else when eqb (w / 4096) 9 then grouped x y Cmp (w / 256 % 16) (w / 16 % 16) (w % 16)
+        else when eqb (w / 4096) 15 then grouped x y And (w / 256 % 16) (w / 16 % 16) (w % 16)
+        else when eqb (w / 16) 3 then branching y (w % 16)
         else Slow

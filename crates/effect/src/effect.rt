@@ -4,7 +4,7 @@
 // nanoseconds a step (docs/DECISIONS.md, docs/PERFORMANCE.md). The proof that it is the table's: `effect_by_table` in laws.rt. Wherever a word
 // is taken here, the table reads an instruction there, and its cycles and length are taken, by its kind, which the compiler folds.
 ghost use Rattle.std.specs.Prelude.{◌≡◌, ◌/◌, ◌%◌, eqb};
-ghost use Rattle.base.specs.Test.{if◌then◌else◌};
+ghost use Rattle.base.specs.Test.{when◌then◌else◌};
 ghost use Rattle.isa.specs.Cycles.{cycles_of};
 ghost use Rattle.alu.specs.Arithmetic.{computed};
 ghost use Rattle.effect.specs.declared.effect.Speed.TheVariants.{Slow as SLOW};
@@ -218,7 +218,7 @@ fn fast_move(
 
 // JZ, or what is left to the step.
 fn fast_jump(a: u16, status: u16, y: u16, d: u8, w: u16) -> Speed
-    ensures { result ≡ (if eqb (w / 16) 3 then branching a status y d else SLOW) }
+    ensures { result ≡ (when eqb (w / 16) 3 then branching a status y d else SLOW) }
 {
     if w / 16 == 3 {
         return fast_branch(a, status, y, d);

@@ -8,7 +8,7 @@ use lib.ListN.{length, take, drop, length-drop}
 use lib.Seq.{sets, length-take-le}
 use borrow.Author.Tests.{ne_eqb}
 use Rattle.base.specs.declared.refusal.Refusal.{Refusal}
-use Rattle.base.proofs.Tests.{if_false}
+use Rattle.base.proofs.Tests.{when_false}
 use Rattle.text.proofs.Finding.{from_here}
 use Rattle.transcript.specs.Transcript.{decimal_bytes}
 use Rattle.transcript.proofs.TranscriptLaws.{Put, put_then}
@@ -47,7 +47,7 @@ pub line_labelled : {entry one two exit : List ℕ} {a b to : ℕ} (line : ℕ) 
 unfolding line_label
 line_labelled line h p k q r =
     let w = put_then p (put_then q r) in
-    (omega (arith, p.ends, r.ends), rw (if_false _ _ _ (ne_eqb line 0 h)) w)
+    (omega (arith, p.ends, r.ends), rw (when_false _ _ _ (ne_eqb line 0 h)) w)
 
 -- the label of a refusal
 module _ (text : List ℕ) (size : ℕ) {label : List ℕ} (l : (size ≤ 16) × ((length text ≡ 16) × (take size text ≡ label))) where

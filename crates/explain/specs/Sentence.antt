@@ -1,7 +1,7 @@
 -- The sentence on a refused sheet: the line's number, the reason, the refusal's number and word.
 use Rattle.std.specs.Prelude.{ℕ, ◌≡◌, List, [], ◌∷◌, ◌++◌, eqb, length}
 use Rattle.std.proofs.lemmas.List.Edits.{sets}
-use Rattle.base.specs.Test.{if◌then◌else◌}
+use Rattle.base.specs.Test.{when◌then◌else◌}
 use Rattle.base.specs.declared.refusal.Refusal.{Refusal}
 use Rattle.base.specs.declared.refusal.Refusal.TheVariants.{Map, Fence, Timetable, Frame, Distance, Clock, Line, Sheet, Word}
 use Rattle.base.specs.Refusal.{refusal_number}
@@ -11,7 +11,7 @@ use Rattle.transcript.specs.Transcript.{decimal_bytes, parts}
 -- `line `, the number, a colon and a space; nothing for the sheet as a whole, line 0
 unfoldable pub line_label : ℕ → List ℕ
 line_label line =
-    if eqb line 0 then [] else parts ((0x6C ∷ 0x69 ∷ 0x6E ∷ 0x65 ∷ 0x20 ∷ []) ∷ decimal_bytes line ∷ (0x3A ∷ 0x20 ∷ []) ∷ [])
+    when eqb line 0 then [] else parts ((0x6C ∷ 0x69 ∷ 0x6E ∷ 0x65 ∷ 0x20 ∷ []) ∷ decimal_bytes line ∷ (0x3A ∷ 0x20 ∷ []) ∷ [])
 
 -- document 01's word for a refusal
 unfoldable pub refusal_word : Refusal → List ℕ

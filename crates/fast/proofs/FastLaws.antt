@@ -5,7 +5,7 @@ use mathlib.Core.List.{List}
 use Prim.Native.Nat.{ℕ}
 use native.Mathlib.Omega.{arith}
 use borrow.Author.Tests.{not-true}
-use Rattle.base.proofs.Tests.{cases, if_false, choose, choose_both}
+use Rattle.base.proofs.Tests.{cases, when_false, choose, choose_both}
 use Rattle.rows.specs.declared.read.Begun.{Begun}
 use Rattle.rows.specs.Words.{begun}
 use Rattle.isa.specs.Cycles.{cycles_of}
@@ -41,7 +41,7 @@ pub fetched_judged : (L : Layout) (held : Bool) (rs mem : List ℕ) (previous : 
 unfolding fetchable judge
 fetched_judged L held rs mem previous =
     choose_both (λ (t : Bool) (j : Judged). t ≡ true → j ≡ judge_first L held rs mem (begun (word_at mem (pc rs)))) _
-    (λ h e. absurd (true≢false (sym e))) (λ h e. if_false _ _ _ (not-true _ e))
+    (λ h e. absurd (true≢false (sym e))) (λ h e. when_false _ _ _ (not-true _ e))
 
 -- the machine after an effect
 abbrev pub after_effect : Effect → State → State
@@ -63,7 +63,7 @@ none_due m e = choose (λ (z : Stamp). z ≡ Never) _ (λ h. e) (λ h. refl)
 -- and none of a masked machine
 masked_due : (m : State) → gie (sr m.registers) ≡ false → due m ≡ Never
 unfolding due
-masked_due m e = if_false _ _ _ e
+masked_due m e = when_false _ _ _ e
 
 module _ (S : Setting) (m : State) (mem : List ℕ) (running : m.halted ≡ false) where
   module _ (b : Begun) (x y : ℕ) (e : Effect) (a : Acting S.layout (is_held m.context) m.registers mem b x y e)

@@ -7,8 +7,8 @@ use native.Mathlib.Omega.{arith}
 use lib.Dec.{eqb}
 use lib.ListN.{length, get_or}
 use borrow.Author.Tests.{ne_eqb}
-use Rattle.base.specs.Test.{if◌then◌else◌}
-use Rattle.base.proofs.Tests.{cases, choose, if_false}
+use Rattle.base.specs.Test.{when◌then◌else◌}
+use Rattle.base.proofs.Tests.{cases, choose, when_false}
 use Rattle.base.specs.Limits.{memory_bytes, last_clock}
 use Rattle.rows.specs.Words.{begun}
 use Rattle.alu.specs.Status.{gie}
@@ -52,7 +52,7 @@ saved_again (Held previous age) saved = refl
 saved_on : (v : SavedContext) (saved : List ℕ) (k n : ℕ) → n ≡ k + 1 → saved_after n v saved ≡ saved_for v (saved_after k v saved)
 unfolding saved_after
 saved_on v saved k n e =
-    if_false _ _ _ (ne_eqb n 0 (λ z. absurd (omega arith)))
+    when_false _ _ _ (ne_eqb n 0 (λ z. absurd (omega arith)))
     ∙ sym (choose (λ (z : List ℕ). saved_for v z ≡ saved_for v saved) (eqb k 0) (λ h. refl) (λ h. saved_again v saved))
 
 -- ---- fast steps in a row
@@ -191,7 +191,7 @@ module _ (S : Setting) where
           }
 
     follows : (k : ℕ) (s : FastState) → FastSteps S.layout held until (fast_state rs c.previous c.time.clock mem) k s → Follows k s
-    unfolding saved_after if◌then◌else◌
+    unfolding saved_after when◌then◌else◌
     follows k s no_step = record { ran = none; going = no_event; gie_clear = gie_clear_first }
     follows k s (one_more j n v next w e p near f word does eq count) =
         subst (Follows n) (sym eq) (follows_on j v (follows j v p) near f w word e does n count)

@@ -1,6 +1,6 @@
 -- Fast steps in a row: what each sets, and that steps of the definition lead from one world to another.
 use Rattle.std.specs.Prelude.{◌≡◌, Bool, true, false, not, List, [], ◌∷◌, ℕ, ◌+◌, ◌/◌, ◌%◌, ◌≤◌, eqb, get_or, set}
-use Rattle.base.specs.Test.{if◌then◌else◌, all}
+use Rattle.base.specs.Test.{when◌then◌else◌, all}
 use Rattle.base.specs.Limits.{last_clock}
 use Rattle.layout.specs.declared.sections.Layout.{Layout}
 use Rattle.layout.specs.declared.access.Right.TheVariants.{Execute as execute}
@@ -22,7 +22,7 @@ use Rattle.effect.specs.Effect.{put_if, fast_effect}
 -- the word at this address may be executed: causes 1 and 2 do not hold
 unfoldable pub fetchable : Layout → Bool → ℕ → ℕ → Bool
 fetchable L held previous a =
-    if not (may L previous execute a) then false
+    when not (may L previous execute a) then false
     else not (all (inside L a ∷ held ∷ []))
 
 -- what fast steps change: the registers, the previous address, the clock and memory
@@ -70,4 +70,4 @@ module _ (S : Setting) where
 
 -- the saved copy after so many steps that only ran
 unfoldable pub saved_after : ℕ → SavedContext → List ℕ → List ℕ
-saved_after steps context saved = if eqb steps 0 then saved else saved_for context saved
+saved_after steps context saved = when eqb steps 0 then saved else saved_for context saved

@@ -6,7 +6,7 @@ use Prim.Native.Nat.{ℕ, ◌≤◌}
 use native.Mathlib.Omega.{arith}
 use lib.ListN.{get_or}
 use borrow.Author.Tests.{ne_eqb}
-use Rattle.base.proofs.Tests.{if_false}
+use Rattle.base.proofs.Tests.{when_false}
 use Rattle.std.proofs.lemmas.Bool.{not-true}
 use Rattle.definition.specs.Setting.{Setting}
 use Rattle.definition.specs.declared.state.SavedContext.{SavedContext}
@@ -59,7 +59,7 @@ module _ (S : Setting) where
     burst_some i saved kept e d f =
         subst (λ (x : Control). RanSteps S (world (with_registers rs saved c) mem) progress.steps (world (with_registers rs' kept x) bytes)) (sym f)
         (subst (λ (z : List ℕ). RanSteps S (world (with_registers rs saved c) mem) progress.steps (world (with_registers rs' z (control_after c progress)) bytes))
-        (if_false _ _ _ (ne_eqb progress.steps 0 (λ z. absurd (omega arith))) ∙ sym e) (q saved))
+        (when_false _ _ _ (ne_eqb progress.steps 0 (λ z. absurd (omega arith))) ∙ sym e) (q saved))
 
   -- what a full step leaves, apart and joined again
   pub full_gives : (rs saved mem bytes rs' saved' : List ℕ) (c d : Control) (m : State) (done : StepResult) → m ≡ with_registers rs saved c

@@ -4,8 +4,8 @@ use mathlib.Core.Bool.{Bool, true, false, true≢false}
 use Prim.Native.Nat.{ℕ, ◌<◌}
 use native.Mathlib.Omega.{arith}
 use borrow.Author.Tests.{eqb-true, ltb-true, lt-ltb}
-use Rattle.base.specs.Test.{if◌then◌else◌}
-use Rattle.base.proofs.Tests.{each, every, if_true, if_false, choose}
+use Rattle.base.specs.Test.{when◌then◌else◌}
+use Rattle.base.proofs.Tests.{each, every, when_true, when_false, choose}
 use Rattle.base.specs.declared.refusal.Refusal.TheVariants.{Word}
 use Rattle.rows.specs.declared.row.Operation.TheVariants.{Add, Sub, Cmp, And}
 use Rattle.rows.specs.declared.row.Row.{Row}
@@ -76,7 +76,7 @@ coded_encodable r w v h =
 -- as many words as the row has
 words_back : (r : Row) (s d w v : ℕ) → second_fits (format_of r).second v ≡ true
     → words_of (format_of r).second w (constant (format_of r).second v) ≡ first_words (length_of (instruction_of r s d v)) w v
-unfolding first_words if◌then◌else◌
+unfolding first_words when◌then◌else◌
 words_back HLT s d w v h = refl
 words_back IN s d w v h = refl
 words_back OUT s d w v h = refl
@@ -96,7 +96,7 @@ written_back : (r : Row) (w v : ℕ) → has_word r w ≡ true → second_fits (
     ≡ first_words (length_of (instruction_of r (s_digit r w) (d_digit r w) v)) w v
 unfolding written
 written_back r w v h f =
-    ap written (coded_back r w v) ∙ if_true _ _ _ (coded_encodable r w v h)
+    ap written (coded_back r w v) ∙ when_true _ _ _ (coded_encodable r w v h)
     ∙ ap (λ (x : ℕ). words_of (format_of r).second x (constant (format_of r).second v)) (sym (word_of r w h))
     ∙ words_back r _ _ w v f
 
@@ -107,11 +107,11 @@ record Decodes (r : Row) (s d v : ℕ) (i : Instruction) (n : ℕ) : Type 0 wher
   pub long : length_of (instruction_of r s d v) ≡ n
 
 decoded_row : (r : Row) (s d v : ℕ) (i : Instruction) (n : ℕ) → finished (Found r s d) v ≡ Decoded i n → Decodes r s d v i n
-unfolding finished if◌then◌else◌
+unfolding finished when◌then◌else◌
 decoded_row r s d v i n e = go (second_fits (format_of r).second v) refl e
   where
     go : (t : Bool) → second_fits (format_of r).second v ≡ t
-        → (if t then Decoded (instruction_of r s d v) (length_of (instruction_of r s d v)) else Refused Word) ≡ Decoded i n
+        → (when t then Decoded (instruction_of r s d v) (length_of (instruction_of r s d v)) else Refused Word) ≡ Decoded i n
         → Decodes r s d v i n
     go true h e = record { fits = h; is = cc; long = cc }
     go false h e = refused e
@@ -149,7 +149,7 @@ row_length NOT s d v = refl
 
 -- a row of one word does not look at a second
 one_word_row : (r : Row) (s d v u : ℕ) → has_second (format_of r).second ≡ false → finished (Found r s d) u ≡ finished (Found r s d) v
-unfolding finished if◌then◌else◌
+unfolding finished when◌then◌else◌
 one_word_row HLT s d v u h = refl
 one_word_row IN s d v u h = refl
 one_word_row OUT s d v u h = refl
@@ -225,7 +225,7 @@ begun_of (Not d) c = begun_back NOT 0 d refl (omega (arith, c.d)) refl
 
 finished_of : (i : Instruction) (v : ℕ) → Follows (format_of (encoding_of i).row).second (encoding_of i).word v
     → finished (Found (encoding_of i).row (encoding_of i).source (encoding_of i).destination) v ≡ Decoded i (length_of i)
-unfolding finished if◌then◌else◌
+unfolding finished when◌then◌else◌
 finished_of Hlt v f = refl
 finished_of (In d) v f = refl
 finished_of (Out s) v f = refl
@@ -256,10 +256,10 @@ abbrev words_in : Encoding → Writing
 words_in e = words_of (format_of e.row).second (first_of e) e.word
 
 wrote : (e : Encoding) (x : Writing) → (Unwritten Word ≡ x → ⊥) → written e ≡ x → (encodable e ≡ true) × (words_in e ≡ x)
-unfolding written if◌then◌else◌
+unfolding written when◌then◌else◌
 wrote e x n p = go (encodable e) refl p
   where
-    go : (t : Bool) → encodable e ≡ t → (if t then words_in e else Unwritten Word) ≡ x → (encodable e ≡ true) × (words_in e ≡ x)
+    go : (t : Bool) → encodable e ≡ t → (when t then words_in e else Unwritten Word) ≡ x → (encodable e ≡ true) × (words_in e ≡ x)
     go true h p = (h, p)
     go false h p = absurd (n p)
 
@@ -316,20 +316,20 @@ written_then_read i w v = (one, two)
         read_wrote i w v true k.0 (wrote_two _ _ v _ w k.1)
 
 -- a refusal has the number 9
-pub reading_number : (b : Begun) (v : ℕ) → reading_refusal (finished b v) ≡ (if decodes b v then 0 else 9)
+pub reading_number : (b : Begun) (v : ℕ) → reading_refusal (finished b v) ≡ (when decodes b v then 0 else 9)
 unfolding finished decodes
-reading_number Nothing v = sym (if_false false 0 9 refl)
+reading_number Nothing v = sym (when_false false 0 9 refl)
 reading_number (Found r s d) v =
-    choose (λ (x : Reading). reading_refusal x ≡ (if second_fits (format_of r).second v then 0 else 9)) (second_fits (format_of r).second v)
-    (λ h. sym (if_true _ _ _ h)) (λ h. sym (if_false _ _ _ h))
+    choose (λ (x : Reading). reading_refusal x ≡ (when second_fits (format_of r).second v then 0 else 9)) (second_fits (format_of r).second v)
+    (λ h. sym (when_true _ _ _ h)) (λ h. sym (when_false _ _ _ h))
 
 words_taken : (x : Second) (w v : ℕ) → writing_refusal (words_of x w v) ≡ 0
 words_taken none w v = refl
 words_taken (exactly u) w v = refl
 words_taken anything w v = refl
 
-pub writing_number : (e : Encoding) → writing_refusal (written e) ≡ (if encodable e then 0 else 9)
+pub writing_number : (e : Encoding) → writing_refusal (written e) ≡ (when encodable e then 0 else 9)
 unfolding written
 writing_number e =
-    choose (λ (x : Writing). writing_refusal x ≡ (if encodable e then 0 else 9)) (encodable e)
-    (λ h. words_taken (format_of e.row).second _ e.word ∙ sym (if_true _ _ _ h)) (λ h. sym (if_false _ _ _ h))
+    choose (λ (x : Writing). writing_refusal x ≡ (when encodable e then 0 else 9)) (encodable e)
+    (λ h. words_taken (format_of e.row).second _ e.word ∙ sym (when_true _ _ _ h)) (λ h. sym (when_false _ _ _ h))

@@ -1,6 +1,6 @@
 -- What is claimed of reading and writing.
 use Rattle.std.specs.Prelude.{◌≡◌, ℕ, eqb}
-use Rattle.base.specs.Test.{if◌then◌else◌}
+use Rattle.base.specs.Test.{when◌then◌else◌}
 use Rattle.rows.specs.declared.write.Writing.{Writing}
 use Rattle.rows.specs.declared.write.Writing.TheVariants.{One, Two}
 use Rattle.isa.specs.declared.instruction.Instruction.{Instruction}
@@ -9,7 +9,7 @@ use Rattle.isa.specs.Words.{reading, writing}
 
 -- as many of the two words as the length says
 unfoldable pub first_words : ℕ → ℕ → ℕ → Writing
-first_words n w v = if eqb n 2 then Two w v else One w
+first_words n w v = when eqb n 2 then Two w v else One w
 
 -- writing what was read gives back exactly the words
 unfoldable pub ReadThenWritten : Type 0

@@ -1,6 +1,6 @@
 -- Reading two words as an instruction, and writing an instruction as its words.
 use Rattle.std.specs.Prelude.{ℕ}
-use Rattle.base.specs.Test.{if◌then◌else◌}
+use Rattle.base.specs.Test.{when◌then◌else◌}
 use Rattle.base.specs.declared.refusal.Refusal.TheVariants.{Word}
 use Rattle.base.specs.Refusal.{refusal_number}
 use Rattle.rows.specs.declared.read.Begun.{Begun}
@@ -21,7 +21,7 @@ decoded i = Decoded i (length_of i)
 -- the instruction begun, with the second word v
 unfoldable pub finished : Begun → ℕ → Reading
 finished Nothing v = Refused Word
-finished (Found r s d) v = if second_fits (format_of r).second v then decoded (instruction_of r s d v) else Refused Word
+finished (Found r s d) v = when second_fits (format_of r).second v then decoded (instruction_of r s d v) else Refused Word
 
 -- reading: the instruction that two words begin with and its length, or refusal 9
 unfoldable pub reading : ℕ → ℕ → Reading

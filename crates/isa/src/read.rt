@@ -1,6 +1,6 @@
 // Reading an instruction from its words.
 ghost use Rattle.std.specs.Prelude.{◌≡◌};
-ghost use Rattle.base.specs.Test.{if◌then◌else◌};
+ghost use Rattle.base.specs.Test.{when◌then◌else◌};
 ghost use Rattle.rows.specs.Words.{begun, decodes};
 ghost use Rattle.isa.specs.Words.{finished, reading, reading_refusal};
 
@@ -38,7 +38,7 @@ impl Instruction {
     // The instruction that two words begin with and its length in words, or refusal 9.
     pub fn read(first: u16, second: u16) -> Reading
         ensures answer { result ≡ reading first second }
-        ensures number { reading_refusal result ≡ (if decodes (begun first) second then 0 else 9) }
+        ensures number { reading_refusal result ≡ (when decodes (begun first) second then 0 else 9) }
     {
         Reading::finish(Begun::begin(first), second)
     }

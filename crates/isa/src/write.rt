@@ -1,6 +1,6 @@
 // Writing an instruction as its words.
 ghost use Rattle.std.specs.Prelude.{◌≡◌};
-ghost use Rattle.base.specs.Test.{if◌then◌else◌};
+ghost use Rattle.base.specs.Test.{when◌then◌else◌};
 ghost use Rattle.rows.specs.Words.{encodable, writing_refusal};
 ghost use Rattle.isa.specs.Encoding.{encoding_of};
 ghost use Rattle.isa.specs.Words.{writing};
@@ -13,7 +13,7 @@ impl Instruction {
     // Exactly the instruction's words, or refusal 9.
     pub fn write(self) -> Writing
         ensures answer { result ≡ writing self }
-        ensures number { writing_refusal result ≡ (if encodable (encoding_of self) then 0 else 9) }
+        ensures number { writing_refusal result ≡ (when encodable (encoding_of self) then 0 else 9) }
     {
         encoding_of(self).write()
     }

@@ -3,7 +3,7 @@ use Prim.Native.Nat.{ℕ}
 use mathlib.Core.Path.{◌≡◌, refl, sym, ◌∙◌}
 use mathlib.Core.Bool.{Bool, true, false, true≢false}
 use borrow.Author.Tests.{eq-eqb}
-use Rattle.base.specs.Test.{if◌then◌else◌}
+use Rattle.base.specs.Test.{when◌then◌else◌}
 use Rattle.base.specs.Word.{drop_bit0}
 use Rattle.layout.specs.declared.sections.Layout.{Layout}
 use Rattle.layout.specs.declared.sections.Section.{Section}
@@ -64,8 +64,8 @@ entry_touch false Read t = refl
 entry_touch false Write t = refl
 
 column_touch : (i : Bool) (s : Section) (e : Bool) (right : Right) → touches right ≡ true
-    → grant (cell i (section_column s (if e then Entry else OtherCode))) right ≡ grant (cell i (section_column s OtherCode)) right
-unfolding if◌then◌else◌
+    → grant (cell i (section_column s (when e then Entry else OtherCode))) right ≡ grant (cell i (section_column s OtherCode)) right
+unfolding when◌then◌else◌
 column_touch i Section.Outside e right t = refl
 column_touch i Section.Code true right t = entry_touch i right t
 column_touch i Section.Code false right t = refl

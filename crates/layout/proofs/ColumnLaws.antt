@@ -4,8 +4,8 @@ use mathlib.Core.Path.{◌≡◌, refl, ◌∙◌, ap}
 use mathlib.Core.Bool.{Bool, true, false}
 use lib.Dec.{eqb}
 use borrow.Author.Tests.{eqb-true}
-use Rattle.base.specs.Test.{if◌then◌else◌}
-use Rattle.base.proofs.Tests.{if_true, if_false}
+use Rattle.base.specs.Test.{when◌then◌else◌}
+use Rattle.base.proofs.Tests.{when_true, when_false}
 use Rattle.layout.specs.declared.sections.Layout.{Layout}
 use Rattle.layout.specs.declared.sections.Section.{Section}
 use Rattle.layout.specs.declared.access.Column.{Column}
@@ -21,15 +21,15 @@ section_of Data = Section.Data
 section_of Outside = Section.Outside
 
 -- an address has a column of its section, and that of the entry only where it is the entry
-column_section : (s : Section) (t : Bool) → s ≡ section_of (section_column s (if t then Entry else OtherCode))
-unfolding if◌then◌else◌
+column_section : (s : Section) (t : Bool) → s ≡ section_of (section_column s (when t then Entry else OtherCode))
+unfolding when◌then◌else◌
 column_section Section.Outside t = refl
 column_section Section.Code true = refl
 column_section Section.Code false = refl
 column_section Section.Data t = refl
 
-column_entry : (s : Section) (t : Bool) → section_column s (if t then Entry else OtherCode) ≡ Entry → t ≡ true
-unfolding if◌then◌else◌
+column_entry : (s : Section) (t : Bool) → section_column s (when t then Entry else OtherCode) ≡ Entry → t ≡ true
+unfolding when◌then◌else◌
 column_entry Section.Outside t e = cc
 column_entry Section.Code true e = refl
 column_entry Section.Code false e = cc
@@ -47,11 +47,11 @@ module _ (L : Layout) (a : ℕ) where
 
   pub entry_column : section L a ≡ Section.Code → eqb a (entry L) ≡ true → column_of L a ≡ Entry
   unfolding column_of
-  entry_column e f = simp (e, if_true, f)
+  entry_column e f = simp (e, when_true, f)
 
   pub code_column : section L a ≡ Section.Code → eqb a (entry L) ≡ false → column_of L a ≡ OtherCode
   unfolding column_of
-  code_column e f = simp (e, if_false, f)
+  code_column e f = simp (e, when_false, f)
 
   -- the section by the column
   pub column_of_section : {p : Column} → column_of L a ≡ p → section L a ≡ section_of p

@@ -2,7 +2,7 @@
 use Prim.Native.Nat.{ℕ}
 use mathlib.Core.Path.{◌≡◌, refl, ap}
 use mathlib.Core.Bool.{true, false}
-use Rattle.base.proofs.Tests.{if_true, if_false}
+use Rattle.base.proofs.Tests.{when_true, when_false}
 use Rattle.layout.specs.declared.sections.Layout.{Layout}
 use Rattle.layout.specs.declared.sections.Section.{Section}
 use Rattle.layout.specs.declared.sections.Section.TheVariants.{Outside, Code, Data}
@@ -75,15 +75,15 @@ module _ (L : Layout) (a : ℕ) where
   -- the section by the spans
   pub code_section : within L.code a ≡ true → section L a ≡ Code
   unfolding section
-  code_section e = if_true _ _ _ e
+  code_section e = when_true _ _ _ e
 
   pub data_section : within L.code a ≡ false → within L.«data» a ≡ true → section L a ≡ Data
   unfolding section
-  data_section e f = simp (if_false, if_true, e, f)
+  data_section e f = simp (when_false, when_true, e, f)
 
   pub no_section : within L.code a ≡ false → within L.«data» a ≡ false → section L a ≡ Outside
   unfolding section
-  no_section e f = simp (if_false, e, f)
+  no_section e f = simp (when_false, e, f)
 
 module _ (L : Layout) (a b : ℕ) where
   -- two addresses are on one side where they are in one section

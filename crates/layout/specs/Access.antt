@@ -1,6 +1,6 @@
 -- The access table, and the answer to a caller's question about it.
 use Rattle.std.specs.Prelude.{ℕ, Bool, true, false, eqb}
-use Rattle.base.specs.Test.{if◌then◌else◌}
+use Rattle.base.specs.Test.{when◌then◌else◌}
 use Rattle.base.specs.Refusal.{refusal_number}
 use Rattle.base.specs.declared.refusal.Refusal.TheVariants.{Fence}
 use Rattle.layout.specs.declared.sections.Layout.{Layout}
@@ -52,7 +52,7 @@ section_column Section.Data code = Data
 
 -- the column of an address
 unfoldable pub column_of : Layout → ℕ → Column
-column_of L a = section_column (section L a) (if eqb a (entry L) then Entry else OtherCode)
+column_of L a = section_column (section L a) (when eqb a (entry L) then Entry else OtherCode)
 
 -- an instruction at the first address may do this to the byte at the second
 unfoldable pub may : Layout → ℕ → Right → ℕ → Bool
@@ -60,7 +60,7 @@ may L from right a = grant (cell (inside L from) (column_of L a)) right
 
 -- what a caller is told
 unfoldable pub access_answer : Layout → ℕ → Right → ℕ → Access
-access_answer L from right a = if accepted L then if may L from right a then Allowed else Barred else Refused Fence
+access_answer L from right a = when accepted L then when may L from right a then Allowed else Barred else Refused Fence
 
 -- the number of the answer's refusal, 0 where it is none
 abbrev pub access_refusal : Access → ℕ

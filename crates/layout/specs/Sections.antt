@@ -1,6 +1,6 @@
 -- The sections of a layout: which addresses are code, which are data, and which are neither.
 use Rattle.std.specs.Prelude.{ℕ, Bool, true, false, [], ◌∷◌, leb, ltb}
-use Rattle.base.specs.Test.{if◌then◌else◌, all}
+use Rattle.base.specs.Test.{when◌then◌else◌, all}
 use Rattle.layout.specs.declared.sections.Span.{Span}
 use Rattle.layout.specs.declared.sections.Layout.{Layout}
 use Rattle.layout.specs.declared.sections.Section.{Section}
@@ -12,7 +12,7 @@ within s a = all (leb s.start a ∷ ltb a s.end ∷ [])
 
 -- the section that an address lies in
 unfoldable pub section : Layout → ℕ → Section
-section L a = if within L.code a then Code else if within L.«data» a then Data else Outside
+section L a = when within L.code a then Code else when within L.«data» a then Data else Outside
 
 -- the entry is code start
 abbrev pub entry : Layout → ℕ

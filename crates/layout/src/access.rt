@@ -1,6 +1,6 @@
 // The access table: what an instruction at one address may do to the byte at another.
 ghost use Rattle.std.specs.Prelude.{◌≡◌};
-ghost use Rattle.base.specs.Test.{if◌then◌else◌};
+ghost use Rattle.base.specs.Test.{when◌then◌else◌};
 ghost use Rattle.layout.specs.Rules.{accepted};
 ghost use Rattle.layout.specs.Access.{column_of, cell, grant, may, access_answer, access_refusal};
 
@@ -113,7 +113,7 @@ impl Layout {
     // A caller's question: may an instruction at `from` do this to the byte at `a`?
     pub fn access(self, from: u16, right: Right, a: u16) -> Access
         ensures answer { result ≡ access_answer self from right a }
-        ensures refusal { access_refusal result ≡ (if accepted self then 0 else 2) }
+        ensures refusal { access_refusal result ≡ (when accepted self then 0 else 2) }
     {
         if !self.accepted() {
             return Access::Refused(Refusal::Fence);

@@ -1,7 +1,7 @@
 -- One page of a run's transcript on what a caller lends: the definition's page, of the transcript that the caller's numbers tell.
 use Rattle.std.specs.Prelude.{ℕ, ◌≡◌, List, eqb, length}
 use Rattle.std.proofs.lemmas.List.Edits.{sets}
-use Rattle.base.specs.Test.{if◌then◌else◌}
+use Rattle.base.specs.Test.{when◌then◌else◌}
 use Rattle.base.specs.declared.verdict.Verdict.{Verdict}
 use Rattle.base.specs.Verdict.{verdict, refused_by}
 use Rattle.definition.specs.Setting.{setting_of}
@@ -16,7 +16,7 @@ use Rattle.base.specs.Kept.{unless_refused}
 
 -- what a stage's number says is still to be written: 0 the header and what follows it, 1 steps and the end, any other nothing
 unfoldable pub stage_of : ℕ → Remaining
-stage_of n = if eqb n 0 then Header else if eqb n 1 then Steps else Nothing
+stage_of n = when eqb n 0 then Header else when eqb n 1 then Steps else Nothing
 
 -- the number of what is still to be written: a stage above 2, too, is handed back as 2; 3 is a sheet's refusal, which no stage says
 abbrev pub stage_number : Remaining → ℕ

@@ -5,7 +5,7 @@ use mathlib.Core.List.{List}
 use Prim.Native.Nat.{ℕ}
 use native.Mathlib.Omega.{arith}
 use lib.ListN.{get_or}
-use Rattle.base.proofs.Tests.{never, if_true}
+use Rattle.base.proofs.Tests.{never, when_true}
 use Rattle.definition.specs.declared.state.SavedContext.TheVariants.{Held}
 use Rattle.definition.proofs.frame.FrameLaws.{held_framed}
 use Rattle.lentstate.specs.State.{odd_flag, context_of, machine_of}
@@ -14,7 +14,7 @@ use Rattle.lentstate.specs.Laws.{OddFlagUnframed}
 -- they are read as a visit of age 255
 odd_context : (fields : List ℕ) → odd_flag fields ≡ true → context_of fields ≡ Held (get_or fields 3 0) 255
 unfolding context_of
-odd_context fields h = if_true _ _ _ h
+odd_context fields h = when_true _ _ _ h
 
 pub odd_flag_unframed : OddFlagUnframed
 unfolding OddFlagUnframed machine_of

@@ -7,9 +7,9 @@ use native.Mathlib.Omega.{arith}
 use lib.Dec.{eqb}
 use lib.ListN.{get_or}
 use borrow.Author.Tests.{ltb-true, leb-true, le-ltb, ne_eqb}
-use Rattle.base.specs.Test.{if◌then◌else◌, any}
+use Rattle.base.specs.Test.{when◌then◌else◌, any}
 use Rattle.base.specs.Word.{byte_of}
-use Rattle.base.proofs.Tests.{each, if_false}
+use Rattle.base.proofs.Tests.{each, when_false}
 use Rattle.layout.specs.declared.sections.Layout.{Layout}
 use Rattle.definition.specs.declared.state.Stamp.{Stamp}
 use Rattle.definition.specs.declared.state.Stamp.TheVariants.{Never, At}
@@ -23,26 +23,26 @@ use Rattle.lentstate.specs.Laws.{MachineAgain}
 -- a stamp that is not 0
 stamp_again : (n : ℕ) → 0 < n → stamp_of n ≡ At n
 unfolding stamp_of
-stamp_again n h = if_false _ _ _ (ne_eqb n 0 (λ e. omega (arith, e)))
+stamp_again n h = when_false _ _ _ (ne_eqb n 0 (λ e. omega (arith, e)))
 
 slot_again : (clock : ℕ) (s : Stamp) → framed_slot clock s ≡ true → stamp_of (stamp_number s) ≡ s
-unfolding stamp_of if◌then◌else◌
+unfolding stamp_of when◌then◌else◌
 slot_again clock Never h = refl
 slot_again clock (At s) h = stamp_again s (ltb-true _ _ (each _ h).0)
 
 alarm_again : (clock : ℕ) (s : Stamp) → framed_alarm clock s ≡ true → stamp_of (stamp_number s) ≡ s
-unfolding stamp_of if◌then◌else◌
+unfolding stamp_of when◌then◌else◌
 alarm_again clock Never h = refl
 alarm_again clock (At s) h = let l : clock < s = ltb-true _ _ h in stamp_again s (omega arith)
 
 -- an age of a frame has 8 bits
 age_again : (age : ℕ) → age ≤ 6 → byte_of age ≡ age
 unfolding byte_of
-age_again age h = if_false _ _ _ (le-ltb 255 age (omega arith))
+age_again age h = when_false _ _ _ (le-ltb 255 age (omega arith))
 
 context_again : (L : Layout) (saved : List ℕ) (previous : ℕ) (halted : Bool) (v : SavedContext) → framed_context L saved v ≡ true
     → context_of (control_fields previous halted v) ≡ v
-unfolding context_of odd_flag any if◌then◌else◌
+unfolding context_of odd_flag any when◌then◌else◌
 context_again L saved previous true Unheld h = refl
 context_again L saved previous false Unheld h = refl
 context_again L saved previous true (Held p age) h = rw (age_again age (leb-true _ _ (each _ h).0))

@@ -1,6 +1,6 @@
 -- The machine in the numbers that a caller lends, both ways.
 use Rattle.std.specs.Prelude.{ℕ, Bool, not, List, [], ◌∷◌, eqb, ltb, get_or}
-use Rattle.base.specs.Test.{if◌then◌else◌, any, bit_of}
+use Rattle.base.specs.Test.{when◌then◌else◌, any, bit_of}
 use Rattle.base.specs.Word.{byte_of}
 use Rattle.definition.specs.declared.state.Stamp.{Stamp}
 use Rattle.definition.specs.declared.state.Stamp.TheVariants.{Never, At}
@@ -11,7 +11,7 @@ use Rattle.definition.specs.declared.state.State.{State}
 
 -- a stamp: 0 is none
 unfoldable pub stamp_of : ℕ → Stamp
-stamp_of n = if eqb n 0 then Never else At n
+stamp_of n = when eqb n 0 then Never else At n
 
 -- the number of a stamp: 0 is none
 abbrev pub stamp_number : Stamp → ℕ
@@ -33,8 +33,8 @@ odd_flag fields = any (ltb 1 (get_or fields 1 0) ∷ ltb 1 (get_or fields 2 0) �
 -- their visit; where a flag is odd, one of an age that no frame has
 unfoldable pub context_of : List ℕ → SavedContext
 context_of fields =
-    if odd_flag fields then Held (get_or fields 3 0) 255
-    else if eqb (get_or fields 2 0) 0 then Unheld
+    when odd_flag fields then Held (get_or fields 3 0) 255
+    else when eqb (get_or fields 2 0) 0 then Unheld
     else Held (get_or fields 3 0) (byte_of (get_or fields 4 0))
 
 -- the five numbers of a previous address, halted and the visit

@@ -5,9 +5,9 @@ use Prim.Native.Nat.{ℕ, ◌<◌}
 use native.Mathlib.Omega.{arith}
 use lib.Dec.{ltb}
 use borrow.Author.Tests.{ltb-true}
-use Rattle.base.specs.Test.{if◌then◌else◌}
+use Rattle.base.specs.Test.{when◌then◌else◌}
 use Rattle.base.specs.declared.refusal.Refusal.TheVariants.{Word}
-use Rattle.base.proofs.Tests.{cases, each, never, if_true, if_false}
+use Rattle.base.proofs.Tests.{cases, each, never, when_true, when_false}
 use Rattle.rows.specs.declared.row.Operation.TheVariants.{Add, Sub, Cmp, And}
 use Rattle.rows.specs.declared.row.Row.{Row}
 use Rattle.rows.specs.declared.row.Row.TheVariants.{Hlt as HLT, In as IN, Out as OUT, Jz as JZ, Reti as RETI, Nop as NOP, Jmp as JMP, Mov as MOV, Load as LOAD, Store as STORE, Immediate as IMMEDIATE, Compute as COMPUTE, Not as NOT}
@@ -29,7 +29,7 @@ use Rattle.lentwords.specs.Fields.{row_at, row_index, fields_of, writing_of}
 use Rattle.lentwords.specs.Laws.{RowAtIndex, FieldsWritten}
 
 row_at_lem : (r : Row) → row_at (row_index r) ≡ Present r
-unfolding row_at if◌then◌else◌
+unfolding row_at when◌then◌else◌
 row_at_lem HLT = refl
 row_at_lem IN = refl
 row_at_lem OUT = refl
@@ -59,7 +59,7 @@ narrowed e = record { row = e.row; source = byte_of e.source; destination = byte
 encoded_again : (i : Instruction)
     → encoding_of (instruction_of (encoding_of i).row (byte_of (encoding_of i).source) (byte_of (encoding_of i).destination) (encoding_of i).word)
     ≡ narrowed (encoding_of i)
-unfolding byte_of if◌then◌else◌
+unfolding byte_of when◌then◌else◌
 encoded_again Hlt = refl
 encoded_again (In d) = refl
 encoded_again (Out s) = refl
@@ -77,14 +77,14 @@ encoded_again (Not d) = refl
 -- a number of 8 bits stays
 byte_stays : (n : ℕ) → ltb 255 n ≡ false → byte_of n ≡ n
 unfolding byte_of
-byte_stays n h = if_false _ _ _ h
+byte_stays n h = when_false _ _ _ h
 
 -- a wider one is no register, nor what it is in 8 bits
 byte_wide : (n : ℕ) → ltb 255 n ≡ true → (n < 16 → ⊥) × (byte_of n < 16 → ⊥)
 unfolding byte_of
 byte_wide n h =
     let l = ltb-true 255 n h in
-    let b : byte_of n ≡ 255 = if_true _ _ _ h in
+    let b : byte_of n ≡ 255 = when_true _ _ _ h in
     ((λ f. omega arith), (λ f. omega arith))
 
 -- an encoding with a number that is no register has no words
@@ -95,7 +95,7 @@ module _ (e : Encoding) where
 
   no_words : (encodable e ≡ true → ⊥) → written e ≡ Unwritten Word
   unfolding written
-  no_words h = if_false _ _ _ (never _ h)
+  no_words h = when_false _ _ _ (never _ h)
 
   no_source : (e.source < 16 → ⊥) → written e ≡ Unwritten Word
   no_source h = no_words (λ f. h (digits f).0)

@@ -1,6 +1,6 @@
 -- One instruction in four numbers: its index among the rows of document 01's table, source, destination, constant.
 use Rattle.std.specs.Prelude.{ℕ, List, [], ◌∷◌, ltb, get_or}
-use Rattle.base.specs.Test.{if◌then◌else◌}
+use Rattle.base.specs.Test.{when◌then◌else◌}
 use Rattle.base.specs.declared.refusal.Refusal.TheVariants.{Word}
 use Rattle.rows.specs.declared.row.Operation.{Operation}
 use Rattle.rows.specs.declared.row.Operation.TheVariants.{Add, Sub, Cmp, And}
@@ -19,7 +19,7 @@ use Rattle.base.specs.Word.{byte_of}
 
 -- the row at an index of document 01's list, from 0; there are sixteen
 unfoldable pub row_at : ℕ → Numbered
-row_at n = if ltb n 16 then Present (get_or rows n HLT) else Absent
+row_at n = when ltb n 16 then Present (get_or rows n HLT) else Absent
 
 -- the index of an operation's row
 abbrev pub operation_index : Operation → ℕ

@@ -1,6 +1,6 @@
 -- What a line of the sheet says, by its letter and fields.
 use Rattle.std.specs.Prelude.{ℕ, List, eqb, length, get_or}
-use Rattle.base.specs.Test.{if◌then◌else◌}
+use Rattle.base.specs.Test.{when◌then◌else◌}
 use Rattle.base.specs.Word.{is_even}
 use Rattle.text.specs.declared.number.Hex.{Hex}
 use Rattle.text.specs.declared.number.Hex.TheVariants.{Parsed as HexIs, Unreadable as NoHex}
@@ -42,7 +42,7 @@ layout_line fields =
 abbrev pub worded : Hex → Hex → Line
 worded NoHex w = Unreadable
 worded (HexIs a) NoHex = Unreadable
-worded (HexIs a) (HexIs w) = if is_even a then Parsed (Word a w) else Unreadable
+worded (HexIs a) (HexIs w) = when is_even a then Parsed (Word a w) else Unreadable
 
 -- M, an even address and a word
 unfoldable pub word_line : List ℕ → Line
@@ -67,12 +67,12 @@ budget_line fields = budgeted (decimal_of fields)
 -- by the letter: L, M, A, G
 unfoldable pub by_letter : ℕ → List ℕ → Line
 by_letter letter fields =
-    if eqb letter 0x4C then layout_line fields
-    else if eqb letter 0x4D then word_line fields
-    else if eqb letter 0x41 then stamp_line fields
-    else if eqb letter 0x47 then budget_line fields
+    when eqb letter 0x4C then layout_line fields
+    else when eqb letter 0x4D then word_line fields
+    else when eqb letter 0x41 then stamp_line fields
+    else when eqb letter 0x47 then budget_line fields
     else Unreadable
 
 -- a line: one letter, a tab, and its fields
 unfoldable pub parse_line : List ℕ → Line
-parse_line line = if eqb (length (head line tab)) 1 then by_letter (get_or (head line tab) 0 0) (rest line tab) else Unreadable
+parse_line line = when eqb (length (head line tab)) 1 then by_letter (get_or (head line tab) 0 0) (rest line tab) else Unreadable

@@ -11,9 +11,9 @@ use lib.ListN.{length, set, replicate, length-set, length-replicate, drop_of_len
 use lib.Seq.{sets, take_all}
 use borrow.Author.Tests.{ltb-true, ltb-false}
 use Rattle.base.specs.Limits.{memory_bytes}
-use Rattle.base.specs.Test.{if◌then◌else◌}
+use Rattle.base.specs.Test.{when◌then◌else◌}
 use Rattle.base.specs.Word.{drop_bit0}
-use Rattle.base.proofs.Tests.{cases, if_true, if_false}
+use Rattle.base.proofs.Tests.{cases, when_true, when_false}
 use Rattle.definition.specs.Memory.{put_word}
 use Rattle.lines.specs.declared.line.Content.TheVariants.{Layout as Layouts, Word, Stamp, Budget}
 use Rattle.lines.specs.declared.line.Line.{Line}
@@ -27,11 +27,11 @@ use Rattle.loader.specs.Setup.{pieces, line_stored, memory_from, sheet_memory, s
 -- what follows a byte that is not the newline
 later : (x : ℕ) (xs : List ℕ) → eqb x newline ≡ false → find (x ∷ xs) newline ≡ suc (find xs newline)
 unfolding find
-later x xs e = if_false _ _ _ e
+later x xs e = when_false _ _ _ e
 
 at_once : (x : ℕ) (xs : List ℕ) → eqb x newline ≡ true → find (x ∷ xs) newline ≡ 0
 unfolding find
-at_once x xs e = if_true _ _ _ e
+at_once x xs e = when_true _ _ _ e
 
 none_here : find [] newline ≡ 0
 unfolding find
@@ -43,12 +43,12 @@ unfolding pieces
 pieces_here [] h = absurd (omega (arith, none_here))
 pieces_here (x ∷ xs) h =
     cases (eqb x newline)
-    (λ e. if_true _ _ _ e ∙ rw (at_once x xs e))
+    (λ e. when_true _ _ _ e ∙ rw (at_once x xs e))
     (λ e.
     let f = later x xs e in
     let g : find xs newline < length xs = omega arith in
     let k : suc (find xs newline) + 1 ≡ suc (find xs newline + 1) = omega arith in
-    if_false _ _ _ e ∙ rw (pieces_here xs g, f, k))
+    when_false _ _ _ e ∙ rw (pieces_here xs g, f, k))
 
 -- one without is a single piece
 pub pieces_last : (s : List ℕ) → length s ≤ find s newline → pieces s ≡ s ∷ []
@@ -60,13 +60,13 @@ pieces_last (x ∷ xs) h =
     (λ e.
     let f = later x xs e in
     let g : length xs ≤ find xs newline = omega arith in
-    if_false _ _ _ e ∙ rw (pieces_last xs g))
+    when_false _ _ _ e ∙ rw (pieces_last xs g))
 
 -- ---- the setup, a line at a time
 
 -- the empty line says nothing
 pub empty_line : parse_line [] ≡ Unreadable
-unfolding parse_line find if◌then◌else◌
+unfolding parse_line find when◌then◌else◌
 empty_line = refl
 
 -- whatever does not look at an empty last piece takes the first line, and then the rest

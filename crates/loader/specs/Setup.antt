@@ -1,6 +1,6 @@
 -- The lines of a sheet, and the memory and the timetable that they set up.
 use Rattle.std.specs.Prelude.{ℕ, List, [], ◌∷◌, eqb, replicate}
-use Rattle.base.specs.Test.{if◌then◌else◌}
+use Rattle.base.specs.Test.{when◌then◌else◌}
 use Rattle.base.specs.Limits.{memory_bytes}
 use Rattle.definition.specs.Memory.{put_word}
 use Rattle.lines.specs.declared.line.Content.TheVariants.{Layout as Layouts, Word, Stamp, Budget}
@@ -17,7 +17,7 @@ prepended x (p ∷ ps) = (x ∷ p) ∷ ps
 -- the pieces of a text between its newlines: each is a line but the last, which follows the last newline
 unfoldable pub pieces : List ℕ → List (List ℕ)
 pieces [] = [] ∷ []
-pieces (x ∷ xs) = if eqb x newline then [] ∷ pieces xs else prepended x (pieces xs)
+pieces (x ∷ xs) = when eqb x newline then [] ∷ pieces xs else prepended x (pieces xs)
 
 -- later M lines win
 abbrev pub line_stored : Line → List ℕ → List ℕ

@@ -9,7 +9,7 @@ use Rattle.base.specs.declared.verdict.Verdict.{Verdict}
 use Rattle.base.specs.declared.verdict.Verdict.TheVariants.{Taken as taken, Refused as refused}
 use Rattle.base.specs.FirstFailure.{first_failure}
 use Rattle.base.specs.Verdict.{verdict}
-use Rattle.base.proofs.Tests.{if_true, if_false}
+use Rattle.base.proofs.Tests.{when_true, when_false}
 use Rattle.definition.specs.Setting.{Setting}
 use Rattle.definition.specs.declared.state.State.{State}
 use Rattle.answers.specs.declared.answer.Outcome.{Outcome}
@@ -37,11 +37,11 @@ no_word = refl
 module _ (mem : List ℕ) where
   refused_result : whole_memory mem ≡ false → called (reset_state (cleared 0) start_time) mem (NotStarted Map) ≡ start_call mem
   unfolding start_call first_failure start
-  refused_result h = let v : verdict (start_tests mem) ≡ refused Map = if_false _ _ _ h in rw (v, no_word)
+  refused_result h = let v : verdict (start_tests mem) ≡ refused Map = when_false _ _ _ h in rw (v, no_word)
 
   taken_result : whole_memory mem ≡ true → called (reset_state (cleared (reset_address mem)) start_time) mem HasStarted ≡ start_call mem
   unfolding start_call first_failure start
-  taken_result h = let v : verdict (start_tests mem) ≡ taken = if_true _ _ _ h in rw v
+  taken_result h = let v : verdict (start_tests mem) ≡ taken = when_true _ _ _ h in rw v
 
   pub start_refused : whole_memory mem ≡ false → StartPromise mem (reset_state (cleared 0) start_time) (NotStarted Map)
   start_refused h = start_promised mem _ _ (refused_result h)

@@ -9,7 +9,7 @@ use lib.Seq.{sets, sets-eq, length-sets, take_at}
 use borrow.Author.Tests.{eq-eqb, leb-true, le-leb}
 use Rattle.base.specs.declared.refusal.Refusal.{Refusal}
 use Rattle.base.specs.Limits.{memory_bytes, most_stamps}
-use Rattle.base.proofs.Tests.{each, if_true}
+use Rattle.base.proofs.Tests.{each, when_true}
 use Rattle.layout.specs.declared.sections.Layout.{Layout}
 use Rattle.definition.specs.Setting.{setting_of}
 use Rattle.definition.specs.declared.state.State.{State}
@@ -43,7 +43,7 @@ before m budget = record { state = m; steps = 0; budget = budget; remaining = He
 pub started : (mem : List ℕ) (m : State) (answer : StartAnswer) → called m mem answer ≡ start_call mem → whole_memory mem ≡ true → m ≡ start mem
 unfolding start_call first_failure
 started mem m answer e h =
-    ap (λ (c : Called StartAnswer). c.state) e ∙ ap (λ (v : Verdict). (start_answered mem v).state) (if_true _ _ _ h)
+    ap (λ (c : Called StartAnswer). c.state) e ∙ ap (λ (v : Verdict). (start_answered mem v).state) (when_true _ _ _ h)
 
 module _ (sheet mem stamps : List ℕ) where
   pub opened_refused : (r : Refusal) (line : ℕ) → Refused r line ≡ sheet_answer sheet → length mem ≡ memory_bytes → (L : Layout) → L ≡ no_layout → (m : State) → m ≡ start mem

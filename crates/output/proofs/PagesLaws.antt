@@ -11,7 +11,7 @@ use Rattle.base.specs.FirstFailure.{first_failure}
 use Rattle.base.specs.declared.verdict.Verdict.{Verdict}
 use Rattle.base.specs.declared.verdict.Verdict.TheVariants.{Taken}
 use Rattle.base.specs.Verdict.{verdict}
-use Rattle.base.proofs.Tests.{if_true}
+use Rattle.base.proofs.Tests.{when_true}
 use Rattle.definition.specs.Setting.{Setting}
 use Rattle.definition.specs.State.{World}
 use Rattle.definition.specs.Run.{Going, goes, stops, ending, world_after, step_of, run_from}
@@ -51,7 +51,7 @@ module _ (S : Setting) where
   pub tests_together : (budget : ℕ) (w : World) → ReadyToRun S w → leb budget most_budget ≡ true → verdict (transcript_tests S budget w) ≡ Taken
   unfolding first_failure
   tests_together budget w s b =
-      rw (if_true _ _ _ s.memory, if_true _ _ _ s.layout, if_true _ _ _ s.timetable, if_true _ _ _ s.frame, if_true _ _ _ b) (if_true _ _ _ refl)
+      rw (when_true _ _ _ s.memory, when_true _ _ _ s.layout, when_true _ _ _ s.timetable, when_true _ _ _ s.frame, when_true _ _ _ b) (when_true _ _ _ refl)
 
   -- where the machine is ready, whatever remains is taken
   taken_ready : (t : Transcript) (mem : List ℕ) → ReadyToRun S (world_of t mem) → leb t.budget most_budget ≡ true → (remaining : Remaining)

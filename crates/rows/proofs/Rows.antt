@@ -6,7 +6,7 @@ use Prim.Native.Nat.{ℕ, ◌+◌, ◌*◌, ◌/◌, ◌%◌, ◌<◌}
 use native.Mathlib.Omega.{arith}
 use lib.Dec.{eqb}
 use borrow.Author.Tests.{eqb-true, eq-eqb, not-true}
-use Rattle.base.specs.Test.{if◌then◌else◌, all}
+use Rattle.base.specs.Test.{when◌then◌else◌, all}
 use Rattle.base.proofs.Tests.{cases, each, every, choose}
 use Rattle.rows.specs.declared.row.Operation.TheVariants.{Add, Sub, Cmp, And}
 use Rattle.rows.specs.declared.row.Row.{Row}
@@ -37,7 +37,7 @@ taken r w e = (each _ e).1.0
 
 -- MOV between registers, where it is neither JMP nor NOP
 register_move : (s d : ℕ) → movable s d ≡ true → register_moves s d ≡ Found MOV s d
-unfolding register_moves if◌then◌else◌
+unfolding register_moves when◌then◌else◌
 register_move s d t =
     let h = each _ t in
     let n = not-true (all (eqb s 3 ∷ eqb d 3 ∷ [])) h.1.0 in
@@ -60,7 +60,7 @@ digits w a s c d hs hc hd e =
 
 -- a word that is in a row is sent to that row
 dispatched : (r : Row) (w : ℕ) → has_word r w ≡ true → dispatch w ≡ found r w
-unfolding first_word dispatch own_words register_moves moves computes if◌then◌else◌
+unfolding first_word dispatch own_words register_moves moves computes when◌then◌else◌
 dispatched HLT w e = rw (word_of HLT w e)
 dispatched IN w e =
     let p = word_of IN w e in
@@ -167,7 +167,7 @@ listed NOT = search (here, there) depth 20
 
 -- a word's row is found, whatever the order of the rows
 found_in : (r : Row) (w : ℕ) (rs : List Row) → Among r rs → has_word r w ≡ true → begun_in rs w ≡ found r w
-unfolding begun_in if◌then◌else◌
+unfolding begun_in when◌then◌else◌
 found_in r w [] x'' e = elim x'' [ ]
 found_in r w (q ∷ rs) here e = rw e
 found_in r w (q ∷ rs) (there l) e =
@@ -194,7 +194,7 @@ own_begins w a s =
     (λ _. choose (Begins w) (eqb (w / 16 % 16) 3) (λ c. row JZ (has JZ w (omega (arith, eqb-true)) refl)) (λ _. nothing))))
 
 register_begins : (w : ℕ) → w / 4096 ≡ 4 → w / 16 % 16 ≡ 0 → Begins w (register_moves (w / 256 % 16) (w % 16))
-unfolding register_moves first_word if◌then◌else◌ all
+unfolding register_moves first_word when◌then◌else◌ all
 register_begins w a c =
     let q = four_digits w in
     choose (Begins w) (eqb (w % 16) 0) (λ d. row JMP (has JMP w (omega (arith, eqb-true)) refl))

@@ -1,6 +1,6 @@
 -- Reading a first word as a row, and writing an encoding as its words.
 use Rattle.std.specs.Prelude.{ℕ, Bool, false, List, [], ◌∷◌, eqb, ltb}
-use Rattle.base.specs.Test.{if◌then◌else◌, all}
+use Rattle.base.specs.Test.{when◌then◌else◌, all}
 use Rattle.base.specs.declared.refusal.Refusal.TheVariants.{Word}
 use Rattle.base.specs.Refusal.{refusal_number}
 use Rattle.rows.specs.declared.row.Row.{Row}
@@ -20,7 +20,7 @@ has_word r w = all (eqb w (first_word r (s_digit r w) (d_digit r w)) ∷ (format
 -- the first of these rows that has the word
 unfoldable pub begun_in : List Row → ℕ → Begun
 begun_in [] w = Nothing
-begun_in (r ∷ rs) w = if has_word r w then Found r (s_digit r w) (d_digit r w) else begun_in rs w
+begun_in (r ∷ rs) w = when has_word r w then Found r (s_digit r w) (d_digit r w) else begun_in rs w
 
 -- what a first word begins: the row that has it, with its registers, or nothing
 unfoldable pub begun : ℕ → Begun
@@ -49,7 +49,7 @@ words_of anything w v = Two w v
 -- the words of an encoding, if it has words
 unfoldable pub written : Encoding → Writing
 written e =
-    if encodable e then words_of (format_of e.row).second (first_word e.row e.source e.destination) e.word
+    when encodable e then words_of (format_of e.row).second (first_word e.row e.source e.destination) e.word
     else Unwritten Word
 
 -- the number of the refusal, 0 where there is none

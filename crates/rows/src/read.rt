@@ -1,6 +1,6 @@
 // Reading a first word: the row that has it.
 ghost use Rattle.std.specs.Prelude.{◌≡◌};
-ghost use Rattle.base.specs.Test.{if◌then◌else◌};
+ghost use Rattle.base.specs.Test.{when◌then◌else◌};
 ghost use Rattle.rows.specs.Table.{pointer};
 ghost use Rattle.rows.specs.Words.{begun, two_words};
 ghost use Rattle.rows.specs.internal.Dispatch.{own_words, register_moves, moves, computes, dispatch};
@@ -15,7 +15,7 @@ pub enum Begun {
 }
 
 fn either(c: bool, a: Begun, b: Begun) -> Begun
-    ensures { result ≡ (if c then a else b) }
+    ensures { result ≡ (when c then a else b) }
 {
     if c { a } else { b }
 }

@@ -5,7 +5,7 @@ use Prim.Native.Nat.{ℕ, zero, suc, ◌+◌, ◌-◌, ◌≤◌, ◌<◌}
 use native.Mathlib.Omega.{arith}
 use lib.ListN.{length}
 use borrow.Author.Tests.{lt-ltb, le-ltb}
-use Rattle.base.proofs.Tests.{if_true, if_false}
+use Rattle.base.proofs.Tests.{when_true, when_false}
 use Rattle.base.specs.Limits.{last_clock}
 use Rattle.definition.specs.Setting.{Setting}
 use Rattle.definition.specs.declared.state.State.{State}
@@ -19,15 +19,15 @@ use Rattle.definition.specs.Calls.{timetable}
 -- why the loop leaves, and where it does not
 pub ending_halted : (m : State) → m.halted ≡ true → ending m ≡ stops Halted
 unfolding ending
-ending_halted m h = if_true _ _ _ h
+ending_halted m h = when_true _ _ _ h
 
 pub ending_clock : (m : State) → m.halted ≡ false → last_clock < m.time.clock → ending m ≡ stops Clock
 unfolding ending
-ending_clock m h k = if_false _ _ _ h ∙ if_true _ _ _ (lt-ltb _ _ k)
+ending_clock m h k = when_false _ _ _ h ∙ when_true _ _ _ (lt-ltb _ _ k)
 
 pub ending_goes : (m : State) → m.halted ≡ false → m.time.clock ≤ last_clock → ending m ≡ goes
 unfolding ending
-ending_goes m h k = if_false _ _ _ h ∙ if_false _ _ _ (le-ltb _ _ k)
+ending_goes m h k = when_false _ _ _ h ∙ when_false _ _ _ (le-ltb _ _ k)
 
 module _ (S : Setting) where
   -- what a turn of the loop does: k steps of those that are left, and what is left then lands where the run does

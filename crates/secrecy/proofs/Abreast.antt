@@ -4,7 +4,7 @@ use mathlib.Core.Bool.{true, false, true≢false}
 use mathlib.Core.List.{List}
 use Prim.Native.Nat.{ℕ}
 use Rattle.base.specs.Word.{drop_bit0}
-use Rattle.base.proofs.Tests.{cases, if_true, if_false}
+use Rattle.base.proofs.Tests.{cases, when_true, when_false}
 use Rattle.layout.specs.Sections.{inside, outside}
 use Rattle.layout.specs.Rules.{accepted}
 use Rattle.definition.specs.Setting.{Setting}
@@ -34,8 +34,8 @@ unfolding outside_bytes
 bytes_same S mem bytes s =
     fun_ext λ a.
     cases (outside S.layout a)
-    (λ o. if_true _ _ _ o ∙ s.same a o ∙ sym (if_true _ _ _ o))
-    (λ o. if_false _ _ _ o ∙ sym (if_false _ _ _ o))
+    (λ o. when_true _ _ _ o ∙ s.same a o ∙ sym (when_true _ _ _ o))
+    (λ o. when_false _ _ _ o ∙ sym (when_false _ _ _ o))
 
 pub view_same : (S : Setting) (a b : World) → SameView S a b → view_of S a ≡ view_of S b
 unfolding view_of

@@ -8,7 +8,7 @@ use lib.Dec.{ltb}
 use lib.ListN.{length}
 use borrow.Author.Tests.{ltb-true, ltb-false}
 use Rattle.base.specs.Test.{any}
-use Rattle.base.proofs.Tests.{if_false}
+use Rattle.base.proofs.Tests.{when_false}
 use Rattle.layout.specs.Sections.{outside}
 use Rattle.layout.specs.Rules.{accepted}
 use Rattle.alu.specs.Status.{gie}
@@ -198,7 +198,7 @@ module _ (S : Setting) (fit : accepted S.layout ≡ true) (T : ℕ) (t : Time) (
 
     incomplete : ltb T w.state.time.clock ≡ false → complete T w ≡ false
     unfolding any
-    incomplete e = if_false _ _ _ e ∙ if_false _ _ _ b.running
+    incomplete e = when_false _ _ _ e ∙ when_false _ _ _ b.running
 
     stops : (y : Bool) → ltb T w.state.time.clock ≡ y → Emerges S T t k g base [] (visits S p []) w len
     stops true e =

@@ -4,7 +4,7 @@ use mathlib.Core.Bool.{Bool, true, false, true≢false}
 use mathlib.Core.List.{List, ◌∷◌}
 use Prim.Native.Nat.{ℕ, ◌+◌}
 use native.Mathlib.Omega.{arith}
-use Rattle.base.proofs.Tests.{cases, if_true, if_false, choose}
+use Rattle.base.proofs.Tests.{cases, when_true, when_false, choose}
 use Rattle.isa.specs.declared.instruction.Instruction.{Instruction}
 use Rattle.layout.specs.Sections.{inside, outside}
 use Rattle.layout.specs.Rules.{accepted}
@@ -117,21 +117,21 @@ module _ (S : Setting) (v : Move) (vs : List Move) where
   held_adds : is_held v.before.state.context ≡ true → is_reset v.after.outcome ≡ false
       → meanwhile S (v ∷ vs) ≡ service_adds v.after.outcome (own_cycles S v) + meanwhile S vs
   unfolding meanwhile
-  held_adds h r = if_true _ _ _ h ∙ if_false _ _ _ r
+  held_adds h r = when_true _ _ _ h ∙ when_false _ _ _ r
 
   left_adds : is_held v.before.state.context ≡ false → begins_outside S v ≡ true → meanwhile S (v ∷ vs) ≡ 0
   unfolding meanwhile
-  left_adds h o = if_false _ _ _ h ∙ if_true _ _ _ o
+  left_adds h o = when_false _ _ _ h ∙ when_true _ _ _ o
 
   reset_adds : is_held v.before.state.context ≡ false → begins_outside S v ≡ false → is_reset v.after.outcome ≡ true
       → meanwhile S (v ∷ vs) ≡ 0
   unfolding meanwhile
-  reset_adds h o r = if_false _ _ _ h ∙ if_false _ _ _ o ∙ if_true _ _ _ r
+  reset_adds h o r = when_false _ _ _ h ∙ when_false _ _ _ o ∙ when_true _ _ _ r
 
   inner_adds : is_held v.before.state.context ≡ false → begins_outside S v ≡ false → is_reset v.after.outcome ≡ false
       → meanwhile S (v ∷ vs) ≡ inside_adds v.after.outcome + meanwhile S vs
   unfolding meanwhile
-  inner_adds h o r = if_false _ _ _ h ∙ if_false _ _ _ o ∙ if_false _ _ _ r
+  inner_adds h o r = when_false _ _ _ h ∙ when_false _ _ _ o ∙ when_false _ _ _ r
 
 -- ---- a visit from where it is to its end
 

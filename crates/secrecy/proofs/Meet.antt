@@ -7,8 +7,8 @@ use native.Mathlib.Omega.{arith}
 use lib.Dec.{leb}
 use lib.ListN.{length}
 use borrow.Author.Tests.{leb-true, leb-false, le-leb}
-use Rattle.base.specs.Test.{if◌then◌else◌, any}
-use Rattle.base.proofs.Tests.{cases, if_true}
+use Rattle.base.specs.Test.{when◌then◌else◌, any}
+use Rattle.base.proofs.Tests.{cases, when_true}
 use Rattle.layout.specs.Sections.{outside}
 use Rattle.layout.specs.Rules.{accepted}
 use Rattle.definition.specs.Setting.{Setting}
@@ -112,10 +112,10 @@ ended_sym (ended e) (ended d) x = (sym x.0, sym x.1, sym x.2)
 
 any_first : (a b : Bool) → a ≡ true → any (a ∷ b ∷ []) ≡ true
 unfolding any
-any_first a b h = if_true _ _ _ h
+any_first a b h = when_true _ _ _ h
 
 any_second : (a b : Bool) → b ≡ true → any (a ∷ b ∷ []) ≡ true
-unfolding any if◌then◌else◌
+unfolding any when◌then◌else◌
 any_second true b h = refl
 any_second false b h = rw h
 

@@ -8,7 +8,7 @@ use lib.Dec.{eqb, ltb}
 use lib.ListN.{length}
 use borrow.Author.Tests.{ltb-true, ltb-false, eq-eqb}
 use Rattle.base.specs.Test.{any}
-use Rattle.base.proofs.Tests.{if_false}
+use Rattle.base.proofs.Tests.{when_false}
 use Rattle.layout.specs.Sections.{outside, entry}
 use Rattle.layout.specs.Rules.{accepted}
 use Rattle.alu.specs.Status.{gie}
@@ -281,7 +281,7 @@ module _ (S : Setting) (fit : accepted S.layout ≡ true) (T : ℕ) where
           (let x = ltb-true T a.state.time.clock t in let z = ap (λ (w : Time). w.clock) v.time in omega arith)
       go false t ws done = refl
       go false t ws (more r c) =
-          absurd (true≢false (sym k ∙ if_false _ _ _ t ∙ if_false _ _ _ (v.halted ∙ r)))
+          absurd (true≢false (sym k ∙ when_false _ _ _ t ∙ when_false _ _ _ (v.halted ∙ r)))
 
   view_sym : (a b : World) → SameView S a b → SameView S b a
   view_sym a b v =

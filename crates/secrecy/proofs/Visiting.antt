@@ -6,8 +6,8 @@ use Prim.Native.Nat.{ℕ, ◌+◌, ◌≤◌, ◌<◌}
 use native.Mathlib.Omega.{arith}
 use lib.Dec.{eqb}
 use borrow.Author.Tests.{le-leb, lt-leb}
-use Rattle.base.specs.Test.{if◌then◌else◌, all}
-use Rattle.base.proofs.Tests.{every, if_true, if_false, choose, never, each}
+use Rattle.base.specs.Test.{when◌then◌else◌, all}
+use Rattle.base.proofs.Tests.{every, when_true, when_false, choose, never, each}
 use Rattle.layout.specs.Sections.{inside, outside, entry}
 use Rattle.layout.specs.Rules.{accepted}
 use Rattle.definition.specs.Setting.{Setting}
@@ -40,34 +40,34 @@ sighting_at S v = sighting_of (view_of S v.before) (view_of S (world_after v.aft
 
 first_false : (a b : Bool) → a ≡ false → all (a ∷ b ∷ []) ≡ false
 unfolding all
-first_false a b h = if_false _ _ _ h
+first_false a b h = when_false _ _ _ h
 
 second_false : (a b : Bool) → b ≡ false → all (a ∷ b ∷ []) ≡ false
-unfolding all if◌then◌else◌
+unfolding all when◌then◌else◌
 second_false true b h = rw h
 second_false false b h = refl
 
 module _ (S : Setting) (T : ℕ) (v : Move) (vs : List Move) where
   pub unseen : begins_outside S v ≡ false → sightings S T (v ∷ vs) ≡ sightings S T vs
   unfolding sightings all
-  unseen o = if_false _ _ _ (if_false _ _ _ o)
+  unseen o = when_false _ _ _ (when_false _ _ _ o)
 
   unseen_late : T < v.before.state.time.clock → sightings S T (v ∷ vs) ≡ sightings S T vs
   unfolding sightings
-  unseen_late h = if_false _ _ _ (second_false (begins_outside S v) _ (lt-leb _ _ h))
+  unseen_late h = when_false _ _ _ (second_false (begins_outside S v) _ (lt-leb _ _ h))
 
   pub sighted : begins_outside S v ≡ true → v.before.state.time.clock ≤ T
       → sightings S T (v ∷ vs) ≡ sighting_at S v ∷ sightings S T vs
   unfolding sightings
-  sighted o h = if_true _ _ _ (every _ (o, (le-leb _ _ h, tt)))
+  sighted o h = when_true _ _ _ (every _ (o, (le-leb _ _ h, tt)))
 
 -- ---- the visits of a first step
 
 -- the phase that a step begins in: a step that enters the module starts a visit
 unfoldable pub phase_at : Setting → State → Phase → Phase
 phase_at S m p =
-    if is_held m.context then p else if outside S.layout (pc m.registers) then p
-    else if starts_visit S m then visiting m.time.clock 0 else p
+    when is_held m.context then p else when outside S.layout (pc m.registers) then p
+    else when starts_visit S m then visiting m.time.clock 0 else p
 
 -- the end of a visit that is left by this step, and by its own reset
 abbrev pub left_end : Phase → Move → List Visit
@@ -80,35 +80,35 @@ module _ (S : Setting) (p : Phase) (v : Move) (vs : List Move) where
   pub held_drops : is_held v.before.state.context ≡ true → is_reset v.after.outcome ≡ true
       → visits S p (v ∷ vs) ≡ unended_visit p ++ visits S away vs
   unfolding visits_by
-  held_drops h r = if_true _ _ _ h ∙ if_true _ _ _ r
+  held_drops h r = when_true _ _ _ h ∙ when_true _ _ _ r
 
   pub held_goes : is_held v.before.state.context ≡ true → is_reset v.after.outcome ≡ false
       → visits S p (v ∷ vs) ≡ visits S p vs
   unfolding visits_by
-  held_goes h r = if_true _ _ _ h ∙ if_false _ _ _ r
+  held_goes h r = when_true _ _ _ h ∙ when_false _ _ _ r
 
   pub leaves : is_held v.before.state.context ≡ false → begins_outside S v ≡ true
       → visits S p (v ∷ vs) ≡ left_end p v ++ visits S away vs
   unfolding visits_by
-  leaves h o = if_false _ _ _ h ∙ if_true _ _ _ o
+  leaves h o = when_false _ _ _ h ∙ when_true _ _ _ o
 
   entered_at : is_held v.before.state.context ≡ false → begins_outside S v ≡ false
       → phase_at S v.before.state p ≡ entered S v p
   unfolding phase_at
-  entered_at h o = if_false _ _ _ h ∙ if_false _ _ _ o
+  entered_at h o = when_false _ _ _ h ∙ when_false _ _ _ o
 
   pub resets_own : is_held v.before.state.context ≡ false → begins_outside S v ≡ false → is_reset v.after.outcome ≡ true
       → visits S p (v ∷ vs) ≡ reset_end S (phase_at S v.before.state p) v ++ visits S away vs
   unfolding visits_by
   resets_own h o r =
-      if_false _ _ _ h ∙ if_false _ _ _ o ∙ if_true _ _ _ r
+      when_false _ _ _ h ∙ when_false _ _ _ o ∙ when_true _ _ _ r
       ∙ ap (λ (q : Phase). reset_end S q v ++ visits S away vs) (sym (entered_at h o))
 
   pub inner_goes : is_held v.before.state.context ≡ false → begins_outside S v ≡ false → is_reset v.after.outcome ≡ false
       → visits S p (v ∷ vs) ≡ visits S (longer (phase_at S v.before.state p) (own_cycles S v)) vs
   unfolding visits_by
   inner_goes h o r =
-      if_false _ _ _ h ∙ if_false _ _ _ o ∙ if_false _ _ _ r
+      when_false _ _ _ h ∙ when_false _ _ _ o ∙ when_false _ _ _ r
       ∙ ap (λ (q : Phase). visits S (longer q (own_cycles S v)) vs) (sym (entered_at h o))
 
 -- ---- a machine and its phase
@@ -149,17 +149,17 @@ away_previous S m p g h e =
 module _ (S : Setting) (m : State) where
   pub phase_held : (p : Phase) → is_held m.context ≡ true → phase_at S m p ≡ p
   unfolding phase_at
-  phase_held p h = if_true _ _ _ h
+  phase_held p h = when_true _ _ _ h
 
   pub phase_outside : (p : Phase) → outside S.layout (pc m.registers) ≡ true → phase_at S m p ≡ p
   unfolding phase_at
-  phase_outside p o = choose (λ (q : Phase). q ≡ p) _ (λ e. refl) (λ e. if_true _ _ _ o)
+  phase_outside p o = choose (λ (q : Phase). q ≡ p) _ (λ e. refl) (λ e. when_true _ _ _ o)
 
   phase_inner : (p : Phase) → inside S.layout m.previous ≡ true → phase_at S m p ≡ p
   unfolding phase_at
   phase_inner p i =
       choose (λ (q : Phase). q ≡ p) _ (λ e. refl)
-      (λ e. choose (λ (q : Phase). q ≡ p) _ (λ f. refl) (λ f. if_false _ _ _ (never _ (λ (s : starts_visit S m ≡ true). true≢false (sym (each _ s).1.1.0 ∙ ap not i)))))
+      (λ e. choose (λ (q : Phase). q ≡ p) _ (λ f. refl) (λ f. when_false _ _ _ (never _ (λ (s : starts_visit S m ≡ true). true≢false (sym (each _ s).1.1.0 ∙ ap not i)))))
 
   -- a visit that goes on is not started anew
   pub phase_visiting : (start own : ℕ) → InPhase S m.context m.previous (visiting start own)
@@ -175,14 +175,14 @@ module _ (S : Setting) (m : State) where
   pub phase_entry : (p : Phase) → m.context ≡ Unheld → outside S.layout (pc m.registers) ≡ false → eqb (pc m.registers) (entry S.layout) ≡ true
       → inside S.layout m.previous ≡ false → phase_at S m p ≡ visiting m.time.clock 0
   unfolding phase_at
-  phase_entry p h o e n = if_false _ _ _ (ap is_held h) ∙ if_false _ _ _ o ∙ if_true _ _ _ (every _ (ap (λ (v : SavedContext). not (is_held v)) h, (e, (ap not n, tt))))
+  phase_entry p h o e n = when_false _ _ _ (ap is_held h) ∙ when_false _ _ _ o ∙ when_true _ _ _ (every _ (ap (λ (v : SavedContext). not (is_held v)) h, (e, (ap not n, tt))))
 
   -- elsewhere none starts
   pub phase_away : eqb (pc m.registers) (entry S.layout) ≡ false → phase_at S m away ≡ away
   unfolding phase_at
   phase_away e =
       choose (λ (q : Phase). q ≡ away) _ (λ f. refl)
-      (λ f. choose (λ (q : Phase). q ≡ away) _ (λ g. refl) (λ g. if_false _ _ _ (never _ (λ (s : starts_visit S m ≡ true). true≢false (sym (each _ s).1.0 ∙ e)))))
+      (λ f. choose (λ (q : Phase). q ≡ away) _ (λ g. refl) (λ g. when_false _ _ _ (never _ (λ (s : starts_visit S m ≡ true). true≢false (sym (each _ s).1.0 ∙ e)))))
 
 -- ---- the visits of a step in code or data, none being held, by its own cycles
 

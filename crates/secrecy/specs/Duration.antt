@@ -1,6 +1,6 @@
 -- How long a visit lasts: its own instruction cycles, and what interrupts add; and when a request is served.
 use Rattle.std.specs.Prelude.{ℕ, ◌+◌, ◌≡◌, true, List, [], ◌∷◌, ◌++◌}
-use Rattle.base.specs.Test.{if◌then◌else◌}
+use Rattle.base.specs.Test.{when◌then◌else◌}
 use Rattle.isa.specs.declared.instruction.Instruction.{Instruction}
 use Rattle.isa.specs.declared.instruction.Instruction.TheVariants.{Reti}
 use Rattle.isa.specs.Cycles.{cycles_of}
@@ -50,10 +50,10 @@ inside_adds Halted = 0
 unfoldable pub meanwhile : Setting → List Move → ℕ
 meanwhile S [] = 0
 meanwhile S (v ∷ vs) =
-    if is_held v.before.state.context then
-    if is_reset v.after.outcome then 0 else service_adds v.after.outcome (own_cycles S v) + meanwhile S vs
-    else if begins_outside S v then 0
-    else if is_reset v.after.outcome then 0
+    when is_held v.before.state.context then
+    when is_reset v.after.outcome then 0 else service_adds v.after.outcome (own_cycles S v) + meanwhile S vs
+    else when begins_outside S v then 0
+    else when is_reset v.after.outcome then 0
     else inside_adds v.after.outcome + meanwhile S vs
 
 -- an ended visit lasted its own instruction cycles, plus 17 per padded interrupt, 11 per chained, 6 per plain one meanwhile, plus

@@ -1,6 +1,6 @@
 -- What outside code sees of a run.
 use Rattle.std.specs.Prelude.{ℕ, Bool, List, [], ◌∷◌, leb}
-use Rattle.base.specs.Test.{if◌then◌else◌, all}
+use Rattle.base.specs.Test.{when◌then◌else◌, all}
 use Rattle.layout.specs.Sections.{outside}
 use Rattle.definition.specs.Setting.{Setting}
 use Rattle.definition.specs.declared.state.Stamp.{Stamp}
@@ -21,7 +21,7 @@ pub record View : Type 0 where
 
 -- the outside bytes; 0 stands for the module's
 unfoldable pub outside_bytes : Setting → List ℕ → ℕ → ℕ
-outside_bytes S mem a = if outside S.layout a then byte_at mem a else 0
+outside_bytes S mem a = when outside S.layout a then byte_at mem a else 0
 
 -- the view of a world
 unfoldable pub view_of : Setting → World → View
@@ -59,6 +59,6 @@ begins_outside S v = outside S.layout (pc v.before.state.registers)
 unfoldable pub sightings : Setting → ℕ → List Move → List Sighting
 sightings S T [] = []
 sightings S T (v ∷ vs) =
-    if all (begins_outside S v ∷ leb v.before.state.time.clock T ∷ []) then
+    when all (begins_outside S v ∷ leb v.before.state.time.clock T ∷ []) then
     sighting_of (view_of S v.before) (view_of S (world_after v.after)) v.after.outcome ∷ sightings S T vs
     else sightings S T vs

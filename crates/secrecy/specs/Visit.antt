@@ -1,6 +1,6 @@
 -- The visits of a run, in the order of their starts, each with its end if it has one.
 use Rattle.std.specs.Prelude.{ℕ, zero, suc, ◌+◌, Bool, false, not, List, [], ◌∷◌, ◌++◌, leb, eqb}
-use Rattle.base.specs.Test.{if◌then◌else◌, all}
+use Rattle.base.specs.Test.{when◌then◌else◌, all}
 use Rattle.isa.specs.Cycles.{cycles_of}
 use Rattle.layout.specs.Sections.{entry, inside}
 use Rattle.definition.specs.Setting.{Setting}
@@ -56,7 +56,7 @@ starts_visit S m =
 
 -- the phase in which a step is made: one that starts a visit is the first of it
 abbrev pub entered : Setting → Move → Phase → Phase
-entered S v p = if starts_visit S v.before.state then visiting v.before.state.time.clock 0 else p
+entered S v p = when starts_visit S v.before.state then visiting v.before.state.time.clock 0 else p
 
 -- a visit that has not ended: dropped by a service routine's reset, halted, or still going on
 abbrev pub unended_visit : Phase → List Visit
@@ -79,13 +79,13 @@ unfoldable pub visits_by : (Setting → Move → ℕ) → Setting → Phase → 
 visits_by own S p [] = unended_visit p
 visits_by own S p (v ∷ vs) =
     -- a visit is held: a service routine's step, whose reset drops it
-    if is_held v.before.state.context then
-    if is_reset v.after.outcome then unended_visit p ++ visits_by own S away vs else visits_by own S p vs
+    when is_held v.before.state.context then
+    when is_reset v.after.outcome then unended_visit p ++ visits_by own S away vs else visits_by own S p vs
     -- a step begins outside with none held: a visit has ended by leaving
-    else if begins_outside S v then
+    else when begins_outside S v then
     closed p v.before.state.time.clock 0 leaving v.before.state.registers ++ visits_by own S away vs
     -- pc in code or data, none held: an own reset, or an instruction inside
-    else if is_reset v.after.outcome then
+    else when is_reset v.after.outcome then
     closed (entered S v p) v.after.state.time.clock (own S v) own_reset v.after.state.registers
     ++ visits_by own S away vs
     else visits_by own S (longer (entered S v p) (own S v)) vs

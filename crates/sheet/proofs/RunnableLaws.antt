@@ -7,10 +7,10 @@ use native.Mathlib.Omega.{arith}
 use lib.Dec.{ltb, leb}
 use lib.ListN.{length}
 use borrow.Author.Tests.{ltb-true, leb-true, le-leb}
-use Rattle.base.specs.Test.{if◌then◌else◌}
+use Rattle.base.specs.Test.{when◌then◌else◌}
 use Rattle.base.specs.declared.refusal.Refusal.{Refusal}
 use Rattle.base.specs.declared.refusal.Refusal.TheVariants.{Timetable}
-use Rattle.base.proofs.Tests.{cases, choose, each, every, if_true, if_false}
+use Rattle.base.proofs.Tests.{cases, choose, each, every, when_true, when_false}
 use Rattle.base.specs.Limits.{last_clock, most_budget, most_sheet_bytes, most_stamps}
 use Rattle.layout.specs.declared.sections.Layout.{Layout}
 use Rattle.layout.specs.Rules.{accepted}
@@ -57,21 +57,21 @@ module _ (L : Layout) (n last count : ℕ) (h : count ≤ most_stamps) where
       cases (leb b most_budget)
       (λ e.
       cases (nothing_follows ps)
-      (λ f. rw (e, f, no_stamp_follows ps f) (unfold rising_from if◌then◌else◌ in record {
+      (λ f. rw (e, f, no_stamp_follows ps f) (unfold rising_from when◌then◌else◌ in record {
         layout = refl;
         rising = refl;
         counted = omega arith;
         few = h;
         budget_allowed = leb-true _ _ e;
       }))
-      (λ f. rw (e, f) (unfold if◌then◌else◌ in tt)))
-      (λ e. rw e (unfold if◌then◌else◌ in tt))
+      (λ f. rw (e, f) (unfold when◌then◌else◌ in tt)))
+      (λ e. rw e (unfold when◌then◌else◌ in tt))
 
 -- a stamp that fits, before stamps that rise from it
 rises : (last s : ℕ) (ss : List ℕ) → ltb last s ≡ true → leb s last_clock ≡ true → rising_from s ss ≡ true
     → rising_from last (s ∷ ss) ≡ true
 unfolding rising_from
-rises last s ss h k r = if_true _ _ _ (every (ltb last s ∷ leb s last_clock ∷ []) (h, (k, tt))) ∙ r
+rises last s ss h k r = when_true _ _ _ (every (ltb last s ∷ leb s last_clock ∷ []) (h, (k, tt))) ∙ r
 
 -- a line after L, where the further ones keep what they must
 module _ (L : Layout) (n last count : ℕ) (h : count ≤ most_stamps) (ps : List (List ℕ))
@@ -93,7 +93,7 @@ module _ (L : Layout) (n last count : ℕ) (h : count ≤ most_stamps) (ps : Lis
 
   -- a stamp that fits goes on, one that does not stops
   stamp_keeps : (s : ℕ) → Keeps L last count (s ∷ stamps_from ps)
-      (unless_stopped (if fits_timetable last count s then Goes s (count + 1) else Stops (Refused Timetable n))
+      (unless_stopped (when fits_timetable last count s then Goes s (count + 1) else Stops (Refused Timetable n))
       (λ l c. body_from L (n + 1) l c ps))
   unfolding fits_timetable Keeps
   stamp_keeps s =
@@ -101,8 +101,8 @@ module _ (L : Layout) (n last count : ℕ) (h : count ≤ most_stamps) (ps : Lis
       (λ f.
       let g = each (ltb count most_stamps ∷ ltb last s ∷ leb s last_clock ∷ []) f in
       let k : count + 1 ≤ most_stamps = omega (arith, ltb-true count most_stamps g.0) in
-      rw (if_true _ (Goes s (count + 1)) (Stops (Refused Timetable n)) f) (add s f (body_from L (n + 1) s (count + 1) ps) (further s (count + 1) k)))
-      (λ f. rw (if_false _ (Goes s (count + 1)) (Stops (Refused Timetable n)) f) tt)
+      rw (when_true _ (Goes s (count + 1)) (Stops (Refused Timetable n)) f) (add s f (body_from L (n + 1) s (count + 1) ps) (further s (count + 1) k)))
+      (λ f. rw (when_false _ (Goes s (count + 1)) (Stops (Refused Timetable n)) f) tt)
 
   content_keeps : (content : Content)
       → Keeps L last count (stamp_of (Parsed content) (stamps_from ps))

@@ -8,9 +8,9 @@ use lib.Dec.{eqb}
 use lib.ListN.{length, length-drop}
 use borrow.Author.Tests.{ne_eqb, le-leb}
 use Rattle.base.specs.Limits.{most_sheet_bytes}
-use Rattle.base.specs.Test.{if◌then◌else◌}
+use Rattle.base.specs.Test.{when◌then◌else◌}
 use Rattle.base.specs.declared.refusal.Refusal.TheVariants.{Line as LineRefusal}
-use Rattle.base.proofs.Tests.{cases, if_true, if_false}
+use Rattle.base.proofs.Tests.{cases, when_true, when_false}
 use Rattle.layout.specs.declared.sections.Layout.{Layout}
 use Rattle.lines.specs.declared.line.Content.{Content}
 use Rattle.lines.specs.declared.line.Line.TheVariants.{Parsed, Unreadable}
@@ -34,16 +34,16 @@ pub pieces_filled : (s : List ℕ) → none_follows (pieces s) ≡ false
 unfolding pieces
 pieces_filled [] = refl
 pieces_filled (x ∷ xs) =
-    cases (eqb x newline) (λ e. rw (if_true _ ([] ∷ pieces xs) (prepended x (pieces xs)) e))
-    (λ e. rw (if_false _ ([] ∷ pieces xs) (prepended x (pieces xs)) e) (prepended_filled x (pieces xs)).0)
+    cases (eqb x newline) (λ e. rw (when_true _ ([] ∷ pieces xs) (prepended x (pieces xs)) e))
+    (λ e. rw (when_false _ ([] ∷ pieces xs) (prepended x (pieces xs)) e) (prepended_filled x (pieces xs)).0)
 
 pub pieces_nothing : (s : List ℕ) → nothing_follows (pieces s) ≡ eqb (length s) 0
 unfolding pieces
 pieces_nothing [] = refl
 pieces_nothing (x ∷ xs) =
     let z : nothing_follows (pieces (x ∷ xs)) ≡ false =
-    cases (eqb x newline) (λ e. rw (if_true _ ([] ∷ pieces xs) (prepended x (pieces xs)) e) (pieces_filled xs))
-    (λ e. rw (if_false _ ([] ∷ pieces xs) (prepended x (pieces xs)) e) (prepended_filled x (pieces xs)).1) in
+    cases (eqb x newline) (λ e. rw (when_true _ ([] ∷ pieces xs) (prepended x (pieces xs)) e) (pieces_filled xs))
+    (λ e. rw (when_false _ ([] ∷ pieces xs) (prepended x (pieces xs)) e) (prepended_filled x (pieces xs)).1) in
     z ∙ sym (ne_eqb (suc (length xs)) 0 (λ e. omega arith))
 
 -- a line and its newline are left behind
@@ -54,7 +54,7 @@ rest_shorter s h = rw (length-drop (find s newline + 1) s) (omega arith)
 
 module _ (L : Layout) (n last count : ℕ) (s : List ℕ) where
   pub body_last : length s ≤ find s newline → body_from L n last count (pieces s) ≡ Refused LineRefusal n
-  unfolding body_from if◌then◌else◌
+  unfolding body_from when◌then◌else◌
   body_last h = rw (pieces_last s h)
 
   module _ (h : find s newline < length s) where
@@ -65,7 +65,7 @@ module _ (L : Layout) (n last count : ℕ) (s : List ℕ) where
     unfolding body_from
     body_here =
         rw (pieces_here s h)
-        (if_false _ _ _ (pieces_filled (rest s newline)) ∙ rw (pieces_nothing (rest s newline)))
+        (when_false _ _ _ (pieces_filled (rest s newline)) ∙ rw (pieces_nothing (rest s newline)))
 
     pub body_unreadable : parse_line (head s newline) ≡ Unreadable → body_from L n last count (pieces s) ≡ Refused LineRefusal n
     body_unreadable e = body_here ∙ rw e
@@ -88,18 +88,18 @@ module _ (L : Layout) (n last count : ℕ) (s : List ℕ) where
 
 module _ (s : List ℕ) where
   pub first_last : length s ≤ find s newline → lines_answer (pieces s) ≡ Refused LineRefusal 1
-  unfolding lines_answer if◌then◌else◌
+  unfolding lines_answer when◌then◌else◌
   first_last h = rw (pieces_last s h)
 
   pub first_here : find s newline < length s
       → lines_answer (pieces s)
       ≡ if_parsed 1 (parse_line (head s newline)) (λ content. if_layout (first_of content) (λ L. body_from L 2 0 0 (pieces (rest s newline))))
   unfolding lines_answer
-  first_here h = rw (pieces_here s h) (if_false _ _ _ (pieces_filled (rest s newline)))
+  first_here h = rw (pieces_here s h) (when_false _ _ _ (pieces_filled (rest s newline)))
 
   pub sheet_lines : length s ≤ most_sheet_bytes → sheet_answer s ≡ lines_answer (pieces s)
   unfolding sheet_answer
-  sheet_lines h = if_true _ _ _ (le-leb _ _ h)
+  sheet_lines h = when_true _ _ _ (le-leb _ _ h)
 
 -- ---- what the reader promises
 

@@ -1,6 +1,6 @@
 -- The sheet: its lines in order, the first that is bad, and the setup that it tells.
 use Rattle.std.specs.Prelude.{ℕ, ◌+◌, ◌≡◌, Bool, true, false, List, [], ◌∷◌, ltb, leb, length}
-use Rattle.base.specs.Test.{if◌then◌else◌, all}
+use Rattle.base.specs.Test.{when◌then◌else◌, all}
 use Rattle.base.specs.declared.refusal.Refusal.TheVariants.{Fence, Timetable, Distance, Line as LineRefusal, Sheet as TooLong}
 use Rattle.base.specs.Limits.{last_clock, most_stamps, most_budget, most_sheet_bytes}
 use Rattle.base.specs.Refusal.{refusal_number}
@@ -42,8 +42,8 @@ module _ (L : Layout) (n : ℕ) where
   -- G at line n: nothing may follow it
   unfoldable pub budget_answer : ℕ → ℕ → Bool → Answer
   budget_answer count b last =
-      if leb b most_budget then
-      if last then Read (record { layout = L; stamps = count; budget = b })
+      when leb b most_budget then
+      when last then Read (record { layout = L; stamps = count; budget = b })
       else Refused LineRefusal (n + 1)
       else Refused Distance n
 
@@ -52,7 +52,7 @@ module _ (L : Layout) (n : ℕ) where
   stage_of last count (Layouts M) ends = Stops (Refused LineRefusal n)
   stage_of last count (Word a w) ends = Goes last count
   stage_of last count (Stamp s) ends =
-      if fits_timetable last count s then Goes s (count + 1) else Stops (Refused Timetable n)
+      when fits_timetable last count s then Goes s (count + 1) else Stops (Refused Timetable n)
   stage_of last count (Budget b) ends = Stops (budget_answer count b ends)
 
 -- where the lines stop, or what the further ones say
@@ -69,7 +69,7 @@ if_parsed n (Parsed content) further = further content
 unfoldable pub body_from : Layout → ℕ → ℕ → ℕ → List (List ℕ) → Answer
 body_from L n last count [] = Refused LineRefusal n
 body_from L n last count (p ∷ ps) =
-    if none_follows ps then Refused LineRefusal n
+    when none_follows ps then Refused LineRefusal n
     else if_parsed n (parse_line p)
     (λ content. unless_stopped (stage_of L n last count content (nothing_follows ps)) (λ l c. body_from L (n + 1) l c ps))
 
@@ -82,19 +82,19 @@ first_of (Budget b) = NoLayout
 
 -- and keeps every rule of a layout
 abbrev pub if_layout : First → (Layout → Answer) → Answer
-if_layout (IsLayout L) further = if accepted L then further L else Refused Fence 1
+if_layout (IsLayout L) further = when accepted L then further L else Refused Fence 1
 if_layout NoLayout further = Refused LineRefusal 1
 
 -- then the others
 unfoldable pub lines_answer : List (List ℕ) → Answer
 lines_answer [] = Refused LineRefusal 1
 lines_answer (p ∷ ps) =
-    if none_follows ps then Refused LineRefusal 1
+    when none_follows ps then Refused LineRefusal 1
     else if_parsed 1 (parse_line p) (λ content. if_layout (first_of content) (λ L. body_from L 2 0 0 ps))
 
 -- a sheet above 32,768 bytes is refused before all
 unfoldable pub sheet_answer : List ℕ → Answer
-sheet_answer sheet = if leb (length sheet) most_sheet_bytes then lines_answer (pieces sheet) else Refused TooLong 0
+sheet_answer sheet = when leb (length sheet) most_sheet_bytes then lines_answer (pieces sheet) else Refused TooLong 0
 
 -- the number of the refusal, 0 where there is none
 abbrev pub sheet_refusal : Answer → ℕ

@@ -1,7 +1,7 @@
 // The reader of a sheet: the setup that it tells, or the first bad line.
 ghost use Rattle.std.specs.Prelude.{◌≡◌, ◌≤◌, ◌+◌, length};
 ghost use Rattle.base.specs.Limits.{most_sheet_bytes};
-ghost use Rattle.base.specs.Test.{if◌then◌else◌};
+ghost use Rattle.base.specs.Test.{when◌then◌else◌};
 ghost use Rattle.base.specs.declared.refusal.Refusal.TheVariants.{Timetable as TIMETABLE, Line as LINE};
 ghost use Rattle.sheet.specs.declared.reader.Answer.TheVariants.{Refused as REFUSED};
 ghost use Rattle.sheet.specs.declared.reader.Stage.TheVariants.{Goes as GOES, Stops as STOPS};
@@ -70,7 +70,7 @@ fn budget_answer(layout: Layout, n: u64, count: u64, budget: u64, last: bool) ->
 
 // A stamp at line n.
 fn stamp_stage(n: u64, last: u64, count: u64, stamp: u64) -> Stage
-    ensures { result ≡ (if fits_timetable last count stamp then GOES stamp (count + 1) else STOPS (REFUSED TIMETABLE n)) }
+    ensures { result ≡ (when fits_timetable last count stamp then GOES stamp (count + 1) else STOPS (REFUSED TIMETABLE n)) }
 {
     if fits_timetable(last, count, stamp) {
         return Stage::Goes(stamp, count + 1);

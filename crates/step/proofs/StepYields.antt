@@ -3,8 +3,8 @@ use mathlib.Core.Path.{◌≡◌, sym, ◌∙◌, ap}
 use mathlib.Core.Bool.{Bool, true, false}
 use mathlib.Core.List.{List}
 use Prim.Native.Nat.{ℕ}
-use Rattle.base.specs.Test.{if◌then◌else◌}
-use Rattle.base.proofs.Tests.{if_true, if_false}
+use Rattle.base.specs.Test.{when◌then◌else◌}
+use Rattle.base.proofs.Tests.{when_true, when_false}
 use Rattle.isa.specs.declared.instruction.Instruction.{Instruction}
 use Rattle.isa.specs.Cycles.{cycles_of}
 use Rattle.layout.specs.Sections.{inside}
@@ -34,19 +34,19 @@ module _ (S : Setting) where
     module _
         (next : State) (bytes : List ℕ) (h : next ≡ executed S m mem i) (k : bytes ≡ memory_after m.registers mem i) where
       ordinary_by : ordinary S m mem i
-          ≡ (if next.halted then gives next bytes Halted
+          ≡ (when next.halted then gives next bytes Halted
           else interrupted S (inside S.layout (pc m.registers)) Ran next bytes (due next))
       unfolding ordinary
       ordinary_by = rw (h, k)
 
       -- an instruction that halts, and one after which the interrupt is looked for
       pub ordinary_halts : next.halted ≡ true → ordinary S m mem i ≡ gives next bytes Halted
-      ordinary_halts e = ordinary_by ∙ if_true _ _ _ e
+      ordinary_halts e = ordinary_by ∙ when_true _ _ _ e
 
       pub ordinary_serves : next.halted ≡ false → (t : Bool) → t ≡ inside S.layout (pc m.registers) → (d : Stamp) → d ≡ due next
           → ordinary S m mem i ≡ interrupted S t Ran next bytes d
       ordinary_serves e t f d g =
-          ordinary_by ∙ if_false _ _ _ e ∙ ap (λ (u : Bool). interrupted S u Ran next bytes (due next)) (sym f)
+          ordinary_by ∙ when_false _ _ _ e ∙ ap (λ (u : Bool). interrupted S u Ran next bytes (due next)) (sym f)
           ∙ ap (interrupted S t Ran next bytes) (sym g)
 
     -- by the visit: none is held, one is held and RETI returns to it, or the instruction is another
@@ -58,8 +58,8 @@ module _ (S : Setting) where
       pub performed_returns : is_reti i ≡ true
           → performed S m mem v i ≡ returning S m mem (pass S (cycles_of i) m.time) previous age
       unfolding performed
-      performed_returns r = ap (λ (u : SavedContext). performed S m mem u i) e ∙ if_true _ _ _ r
+      performed_returns r = ap (λ (u : SavedContext). performed S m mem u i) e ∙ when_true _ _ _ r
 
       pub performed_other : is_reti i ≡ false → performed S m mem v i ≡ ordinary S m mem i
       unfolding performed
-      performed_other r = ap (λ (u : SavedContext). performed S m mem u i) e ∙ if_false _ _ _ r
+      performed_other r = ap (λ (u : SavedContext). performed S m mem u i) e ∙ when_false _ _ _ r

@@ -4,9 +4,9 @@ use mathlib.Core.Bool.{Bool, true, false, true≢false}
 use mathlib.Core.Path.{◌≡◌, refl, sym, ◌∙◌, ap}
 use lib.Dec.{leb, ltb}
 use borrow.Author.Tests.{lt-ltb, le-ltb, le-leb, lt-leb, ltb-false, leb-false}
-use Rattle.base.specs.Test.{if◌then◌else◌}
+use Rattle.base.specs.Test.{when◌then◌else◌}
 use Rattle.base.specs.Limits.{last_clock}
-use Rattle.base.proofs.Tests.{if_true, if_false}
+use Rattle.base.proofs.Tests.{when_true, when_false}
 use Rattle.answers.specs.declared.answer.End.TheVariants.{Halted, Clock, Spent}
 use Rattle.steplines.specs.declared.steps.Course.TheVariants.{Goes, Stops}
 use Rattle.steplines.specs.internal.Course.{course, goes_on}
@@ -15,25 +15,25 @@ use Rattle.steplines.specs.internal.Course.{course, goes_on}
 module _ (halted : Bool) (clock steps budget : ℕ) where
   pub course_halted : halted ≡ true → course halted clock steps budget ≡ Stops Halted
   unfolding course
-  course_halted h = if_true _ _ _ h
+  course_halted h = when_true _ _ _ h
 
   pub course_clock : halted ≡ false → last_clock < clock → course halted clock steps budget ≡ Stops Clock
   unfolding course
-  course_clock h k = if_false _ _ _ h ∙ if_true _ _ _ (lt-ltb _ _ k)
+  course_clock h k = when_false _ _ _ h ∙ when_true _ _ _ (lt-ltb _ _ k)
 
   pub course_spent : halted ≡ false → clock ≤ last_clock → budget ≤ steps → course halted clock steps budget ≡ Stops Spent
   unfolding course
-  course_spent h k l = if_false _ _ _ h ∙ if_false _ _ _ (le-ltb _ _ k) ∙ if_true _ _ _ (le-leb _ _ l)
+  course_spent h k l = when_false _ _ _ h ∙ when_false _ _ _ (le-ltb _ _ k) ∙ when_true _ _ _ (le-leb _ _ l)
 
   pub course_goes : halted ≡ false → clock ≤ last_clock → steps < budget → course halted clock steps budget ≡ Goes
   unfolding course
-  course_goes h k l = if_false _ _ _ h ∙ if_false _ _ _ (le-ltb _ _ k) ∙ if_false _ _ _ (lt-leb _ _ l)
+  course_goes h k l = when_false _ _ _ h ∙ when_false _ _ _ (le-ltb _ _ k) ∙ when_false _ _ _ (lt-leb _ _ l)
 
 -- what is known where it goes on
 going_tests : (h k l : Bool)
-    → goes_on (if h then Stops Halted else if k then Stops Clock else if l then Stops Spent else Goes) ≡ true
+    → goes_on (when h then Stops Halted else when k then Stops Clock else when l then Stops Spent else Goes) ≡ true
     → (h ≡ false) × ((k ≡ false) × (l ≡ false))
-unfolding if◌then◌else◌
+unfolding when◌then◌else◌
 going_tests true k l e = absurd (true≢false (sym e))
 going_tests false true l e = absurd (true≢false (sym e))
 going_tests false false true e = absurd (true≢false (sym e))

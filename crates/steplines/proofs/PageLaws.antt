@@ -8,9 +8,9 @@ use lib.Dec.{leb, ltb}
 use lib.ListN.{length}
 use lib.Seq.{sets, length-sets}
 use borrow.Author.Tests.{le-ltb, lt-ltb, le-leb, lt-leb}
-use Rattle.base.specs.Test.{if◌then◌else◌}
+use Rattle.base.specs.Test.{when◌then◌else◌}
 use Rattle.base.specs.Limits.{last_clock}
-use Rattle.base.proofs.Tests.{if_true, if_false}
+use Rattle.base.proofs.Tests.{when_true, when_false}
 use Rattle.definition.specs.Setting.{Setting}
 use Rattle.answers.specs.declared.answer.End.{End}
 use Rattle.answers.specs.declared.answer.End.TheVariants.{Halted, Clock, Spent}
@@ -44,16 +44,16 @@ module _ (S : Setting) where
 
   -- a page by the tests of the code, with a budget that is spent and with one that is not
   module _ (n : ℕ) (w : World) (further : Page) where
-    when_spent : (h k : Bool) → end_or n w (end_page n w Spent) (if h then stops Halted else if k then stops Clock else goes)
-        ≡ by_course n w further (if h then Stops Halted else if k then Stops Clock else if true then Stops Spent else Goes)
-    unfolding if◌then◌else◌
+    when_spent : (h k : Bool) → end_or n w (end_page n w Spent) (when h then stops Halted else when k then stops Clock else goes)
+        ≡ by_course n w further (when h then Stops Halted else when k then Stops Clock else when true then Stops Spent else Goes)
+    unfolding when◌then◌else◌
     when_spent true k = refl
     when_spent false true = refl
     when_spent false false = refl
 
-    when_left : (h k : Bool) → end_or n w further (if h then stops Halted else if k then stops Clock else goes)
-        ≡ by_course n w further (if h then Stops Halted else if k then Stops Clock else if false then Stops Spent else Goes)
-    unfolding if◌then◌else◌
+    when_left : (h k : Bool) → end_or n w further (when h then stops Halted else when k then stops Clock else goes)
+        ≡ by_course n w further (when h then Stops Halted else when k then Stops Clock else when false then Stops Spent else Goes)
+    unfolding when◌then◌else◌
     when_left true k = refl
     when_left false true = refl
     when_left false false = refl
@@ -65,12 +65,12 @@ module _ (S : Setting) where
     unfolding page_from ending course
     course_page zero e =
         let t : leb budget n ≡ true = le-leb budget n (omega arith) in
-        if_false _ _ _ (le-ltb room line_room i)
+        when_false _ _ _ (le-ltb room line_room i)
         ∙ rw t (when_spent n w (further_from room n budget w) w.state.halted (ltb last_clock w.state.time.clock))
     course_page (suc left) e =
         let t : leb budget n ≡ false = lt-leb budget n (omega arith) in
         let f : left ≡ budget - (n + 1) = omega arith in
-        if_false _ _ _ (le-ltb room line_room i)
+        when_false _ _ _ (le-ltb room line_room i)
         ∙ rw (t, f) (when_left n w (further_from room n budget w) w.state.halted (ltb last_clock w.state.time.clock))
 
     pub page_course : page_from S room n (budget - n) w
@@ -80,8 +80,8 @@ module _ (S : Setting) where
   -- a page without
   pub page_full : (room n left : ℕ) (w : World) → room < line_room → page_from S room n left w ≡ empty_page n w Steps
   unfolding page_from
-  page_full room n zero w i = if_true _ _ _ (lt-ltb room line_room i)
-  page_full room n (suc left) w i = if_true _ _ _ (lt-ltb room line_room i)
+  page_full room n zero w i = when_true _ _ _ (lt-ltb room line_room i)
+  page_full room n (suc left) w i = when_true _ _ _ (lt-ltb room line_room i)
 
 -- the page of an end
 last_page : (n : ℕ) (w : World) (further : Page) (going : Course) → goes_on going ≡ false

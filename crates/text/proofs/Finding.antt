@@ -7,7 +7,7 @@ use native.Mathlib.Numerals.{add-one}
 use lib.ListN.{length, get_or, take, drop, length-drop}
 use lib.Seq.{drop-cons, drop-length, take-length}
 use borrow.Author.Tests.{eq-eqb, ne_eqb}
-use Rattle.base.specs.Test.{if◌then◌else◌}
+use Rattle.base.specs.Test.{when◌then◌else◌}
 use Rattle.text.specs.Text.{find, rest}
 
 -- the search has come to i
@@ -16,11 +16,11 @@ Searched s b i = find s b ≡ i + find (drop i s) b
 
 module _ (s : List ℕ) (b i : ℕ) (g : Searched s b i) where
   pub hit : i < length s → get_or s i 0 ≡ b → find s b ≡ i
-  unfolding find if◌then◌else◌
+  unfolding find when◌then◌else◌
   hit h e = g ∙ rw (drop-cons s i 0 h) (simp (eq-eqb _ _ e) (omega arith))
 
   pub miss : i < length s → (get_or s i 0 ≡ b → ⊥) → Searched s b (i + 1)
-  unfolding find if◌then◌else◌
+  unfolding find when◌then◌else◌
   miss h e = g ∙ rw (add-one, drop-cons s i 0 h) (simp (ne_eqb _ _ e) (omega arith))
 
   pub end : i ≡ length s → find s b ≡ i

@@ -7,7 +7,7 @@ use native.Mathlib.Numerals.{add-one}
 use lib.ListN.{length, get_or, drop, drop_of_length-le}
 use lib.Seq.{drop-cons}
 use borrow.Author.Tests.{le-leb, lt-leb}
-use Rattle.base.proofs.Tests.{if_true, if_false}
+use Rattle.base.proofs.Tests.{when_true, when_false}
 use Rattle.text.specs.declared.number.Digit.{Digit}
 use Rattle.text.specs.declared.number.Digit.TheVariants.{Parsed as Digits, Unreadable as NoDigit}
 use Rattle.text.specs.declared.number.Decimal.TheVariants.{Parsed as DecimalIs, Unreadable as NoDecimal}
@@ -36,10 +36,10 @@ module _ (f : List ℕ) (i n : ℕ) where
     digits_digit = digits_here h ∙ ap (λ (d : Digit). one_more d n (λ m. digits_from m (drop (i + 1) f))) e
 
     pub digits_full : 1_000_000_000_000_000_000 ≤ n → digits_from n (drop i f) ≡ NoDecimal
-    digits_full k = digits_digit ∙ if_true _ _ _ (le-leb _ _ k)
+    digits_full k = digits_digit ∙ when_true _ _ _ (le-leb _ _ k)
 
     pub digits_more : n < 1_000_000_000_000_000_000 → digits_from n (drop i f) ≡ digits_from (n * 10 + d) (drop (i + 1) f)
-    digits_more k = digits_digit ∙ if_false _ _ _ (lt-leb _ _ k)
+    digits_more k = digits_digit ∙ when_false _ _ _ (lt-leb _ _ k)
 
   pub digits_end : length f ≤ i → digits_from n (drop i f) ≡ DecimalIs n
   unfolding digits_from

@@ -13,7 +13,7 @@ use Rattle.base.specs.declared.verdict.Verdict.{Verdict}
 use Rattle.base.specs.declared.verdict.Verdict.TheVariants.{Taken as taken, Refused as refused}
 use Rattle.base.specs.FirstFailure.{first_failure}
 use Rattle.base.specs.Verdict.{verdict}
-use Rattle.base.proofs.Tests.{if_true, if_false}
+use Rattle.base.proofs.Tests.{when_true, when_false}
 use Rattle.definition.specs.Setting.{Setting}
 use Rattle.definition.specs.declared.state.State.{State}
 use Rattle.definition.specs.State.{World, world}
@@ -96,13 +96,13 @@ module _ (S : Setting) (t : Transcript) (mem : List ℕ) where
 
   pub header_full : (room : ℕ) → room < line_room → page room Header ≡ empty_page t.steps (world_of t mem) Header
   unfolding page_of
-  header_full room i = if_true _ _ _ (lt-ltb room line_room i)
+  header_full room i = when_true _ _ _ (lt-ltb room line_room i)
 
   pub refusal_full : (room : ℕ) (r : Refusal) (line : ℕ) → t.remaining ≡ RefusalLine r line → room < line_room
       → page room t.remaining ≡ empty_page t.steps (world_of t mem) t.remaining
   unfolding page_of
   refusal_full room r line e i =
-      ap (page room) e ∙ if_true _ _ _ (lt-ltb room line_room i) ∙ ap (empty_page t.steps (world_of t mem)) (sym e)
+      ap (page room) e ∙ when_true _ _ _ (lt-ltb room line_room i) ∙ ap (empty_page t.steps (world_of t mem)) (sym e)
 
   pub nothing_left : (room : ℕ) → page room Nothing ≡ empty_page t.steps (world_of t mem) Nothing
   unfolding page_of
@@ -121,7 +121,7 @@ module _ (S : Setting) (t : Transcript) (mem : List ℕ) where
   unfolding page_of
   refusal_filled entry exit r line k e i p =
       let q = behind (refusal_line r line) (empty_page t.steps (world_of t mem) Nothing) in
-      let s : page (length entry) t.remaining ≡ q = ap (page (length entry)) e ∙ if_false _ _ _ (le-ltb (length entry) line_room i) in
+      let s : page (length entry) t.remaining ≡ q = ap (page (length entry)) e ∙ when_false _ _ _ (le-ltb (length entry) line_room i) in
       let a : refusal_line r line ++ [] ≡ refusal_line r line = append-nil (refusal_line r line) in
       rw s
       (record {
@@ -142,7 +142,7 @@ module _ (S : Setting) (t : Transcript) (mem : List ℕ) where
   header_filled mem_then entry mid exit start r e i h q =
       let l : length mid ≡ length entry = ap length h.1 ∙ length-sets entry 0 header_line in
       let s : page (length entry) t.remaining ≡ behind header_line (lines (length mid - start)) =
-      ap (page (length entry)) e ∙ if_false _ _ _ (le-ltb (length entry) line_room i)
+      ap (page (length entry)) e ∙ when_false _ _ _ (le-ltb (length entry) line_room i)
       ∙ ap (λ (z : ℕ). behind header_line (lines z)) (let a : length entry - 22 ≡ length mid - start = omega (arith, h.0) in a) in
       let text = (lines (length mid - start)).text in
       rw s

@@ -1,6 +1,6 @@
 -- A run's transcript, and the part of it that one call writes.
 use Rattle.std.specs.Prelude.{ℕ, ◌+◌, ◌-◌, List, [], ◌∷◌, ◌++◌, ltb, length}
-use Rattle.base.specs.Test.{if◌then◌else◌}
+use Rattle.base.specs.Test.{when◌then◌else◌}
 use Rattle.definition.specs.Setting.{Setting}
 use Rattle.definition.specs.State.{World}
 use Rattle.definition.specs.Run.{Stop, Move, run_from, moves}
@@ -45,8 +45,8 @@ module _ (S : Setting) where
   -- what one call writes, by what remains
   unfoldable pub page_of : ℕ → ℕ → ℕ → World → Remaining → Page
   page_of room n left w (RefusalLine r line) =
-      if ltb room line_room then empty_page n w (RefusalLine r line) else behind (refusal_line r line) (empty_page n w Nothing)
+      when ltb room line_room then empty_page n w (RefusalLine r line) else behind (refusal_line r line) (empty_page n w Nothing)
   page_of room n left w Header =
-      if ltb room line_room then empty_page n w Header else behind header_line (page_from S (room - length header_line) n left w)
+      when ltb room line_room then empty_page n w Header else behind header_line (page_from S (room - length header_line) n left w)
   page_of room n left w Steps = page_from S room n left w
   page_of room n left w Nothing = empty_page n w Nothing

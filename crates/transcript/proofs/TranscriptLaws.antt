@@ -8,8 +8,8 @@ use lib.Dec.{eqb}
 use lib.ListN.{length, drop, set, get_or, length-set, length-append, drop_of_length-le}
 use lib.Seq.{sets, drop-cons, drop-set-lt, get_or-set_same}
 use borrow.Author.Tests.{eq-eqb, ne_eqb}
-use Rattle.base.specs.Test.{if◌then◌else◌}
-use Rattle.base.proofs.Tests.{if_true, if_false}
+use Rattle.base.specs.Test.{when◌then◌else◌}
+use Rattle.base.proofs.Tests.{when_true, when_false}
 use Rattle.text.specs.Text.{tab}
 use Rattle.transcript.specs.Transcript.{decimal_from, decimal_bytes, hex_bytes}
 
@@ -59,12 +59,12 @@ drop_put text (suc j) b h k =
 -- a turn of the loop that writes a decimal from its last digit
 module _ (i n : ℕ) (text : List ℕ) (h : 0 < i) (k : i ≤ length text) where
   turn : decimal_from i n (drop i text)
-      ≡ (if eqb (n / 10) 0 then (0x30 + n % 10) ∷ drop i text
+      ≡ (when eqb (n / 10) 0 then (0x30 + n % 10) ∷ drop i text
       else decimal_from (i - 1) (n / 10) ((0x30 + n % 10) ∷ drop i text))
   turn = go i h (drop i text)
     where
       go : (i : ℕ) → 0 < i → (ds : List ℕ) → decimal_from i n ds
-          ≡ (if eqb (n / 10) 0 then (0x30 + n % 10) ∷ ds else decimal_from (i - 1) (n / 10) ((0x30 + n % 10) ∷ ds))
+          ≡ (when eqb (n / 10) 0 then (0x30 + n % 10) ∷ ds else decimal_from (i - 1) (n / 10) ((0x30 + n % 10) ∷ ds))
       go zero h ds = absurd (omega arith)
       go (suc j) h ds = let e : suc j - 1 ≡ j = omega arith in rw e (unfold decimal_from in refl)
 
@@ -72,11 +72,11 @@ module _ (i n : ℕ) (text : List ℕ) (h : 0 < i) (k : i ≤ length text) where
   put = drop_put text i (0x30 + n % 10) h k
 
   pub turn_last : n / 10 ≡ 0 → decimal_from i n (drop i text) ≡ drop (i - 1) (set text (i - 1) (0x30 + n % 10))
-  turn_last e = turn ∙ if_true _ _ _ (eq-eqb _ _ e) ∙ sym put
+  turn_last e = turn ∙ when_true _ _ _ (eq-eqb _ _ e) ∙ sym put
 
   pub turn_more : (n / 10 ≡ 0 → ⊥)
       → decimal_from i n (drop i text) ≡ decimal_from (i - 1) (n / 10) (drop (i - 1) (set text (i - 1) (0x30 + n % 10)))
-  turn_more e = turn ∙ if_false _ _ _ (ne_eqb _ _ e) ∙ ap (decimal_from (i - 1) (n / 10)) (sym put)
+  turn_more e = turn ∙ when_false _ _ _ (ne_eqb _ _ e) ∙ ap (decimal_from (i - 1) (n / 10)) (sym put)
 
 pub turn_none : (n : ℕ) (ds : List ℕ) → decimal_from 0 n ds ≡ ds
 unfolding decimal_from

@@ -1,6 +1,6 @@
 -- The transcript's lines, byte by byte.
 use Rattle.std.specs.Prelude.{ℕ, zero, suc, ◌+◌, ◌/◌, ◌%◌, List, [], ◌∷◌, ◌++◌, eqb, ltb}
-use Rattle.base.specs.Test.{if◌then◌else◌}
+use Rattle.base.specs.Test.{when◌then◌else◌}
 use Rattle.base.specs.declared.refusal.Refusal.{Refusal}
 use Rattle.base.specs.Refusal.{refusal_number}
 use Rattle.answers.specs.declared.answer.Outcome.{Outcome}
@@ -12,7 +12,7 @@ use Rattle.text.specs.Text.{tab, newline}
 unfoldable pub decimal_from : ℕ → ℕ → List ℕ → List ℕ
 decimal_from zero n digits = digits
 decimal_from (suc k) n digits =
-    let more = (0x30 + n % 10) ∷ digits in if eqb (n / 10) 0 then more else decimal_from k (n / 10) more
+    let more = (0x30 + n % 10) ∷ digits in when eqb (n / 10) 0 then more else decimal_from k (n / 10) more
 
 -- a decimal, without a leading zero; 20 digits hold 64 bits
 unfoldable pub decimal_bytes : ℕ → List ℕ
@@ -20,7 +20,7 @@ decimal_bytes n = decimal_from 20 n []
 
 -- a hexadecimal digit, capitals
 unfoldable pub hex_byte : ℕ → ℕ
-hex_byte d = if ltb d 10 then 0x30 + d else 0x37 + d
+hex_byte d = when ltb d 10 then 0x30 + d else 0x37 + d
 
 -- four hexadecimal digits
 unfoldable pub hex_bytes : ℕ → List ℕ

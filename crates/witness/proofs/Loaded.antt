@@ -7,9 +7,9 @@ use lib.Dec.{eqb}
 use lib.ListN.{length, length-replicate}
 use Rattle.base.specs.Limits.{memory_bytes}
 use Rattle.base.specs.FirstFailure.{first_failure}
-use Rattle.base.specs.Test.{if◌then◌else◌}
+use Rattle.base.specs.Test.{when◌then◌else◌}
 use Rattle.base.specs.Word.{drop_bit0}
-use Rattle.base.proofs.Tests.{if_true, cases, if_false}
+use Rattle.base.proofs.Tests.{when_true, cases, when_false}
 use Rattle.layout.specs.declared.sections.Layout.{Layout}
 use Rattle.layout.specs.Sections.{outside}
 use Rattle.layout.specs.Rules.{accepted}
@@ -31,12 +31,12 @@ whole outer inner = loaded_length _ inner ∙ loaded_length _ outer ∙ length-r
 -- start takes a memory so loaded
 pub starts : (outer inner : List MLine) → (start_call (memory_of outer inner)).answer ≡ Done
 unfolding start_call first_failure
-starts outer inner = rw (if_true _ _ _ (ap (λ (n : ℕ). eqb n memory_bytes) (whole outer inner)))
+starts outer inner = rw (when_true _ _ _ (ap (λ (n : ℕ). eqb n memory_bytes) (whole outer inner)))
 
 -- every word of the lines is in the module
 unfoldable pub hidden : Layout → List MLine → Bool
 hidden L [] = true
-hidden L (l ∷ ls) = if outside L (drop_bit0 l.address) then false else hidden L ls
+hidden L (l ∷ ls) = when outside L (drop_bit0 l.address) then false else hidden L ls
 
 module _ (L : Layout) (fit : accepted L ≡ true) where
   unseen : (mem : List ℕ) (ls : List MLine) → hidden L ls ≡ true → (a : ℕ) → outside L a ≡ true
@@ -45,9 +45,9 @@ module _ (L : Layout) (fit : accepted L ≡ true) where
   unseen mem [] h a o = refl
   unseen mem (l ∷ ls) h a o =
       cases (outside L (drop_bit0 l.address))
-      (λ e. absurd (false≢true (sym (if_true _ _ _ e) ∙ h)))
+      (λ e. absurd (false≢true (sym (when_true _ _ _ e) ∙ h)))
       (λ e.
-      unseen (put_word mem l.address l.word) ls (sym (if_false _ _ _ e) ∙ h) a o
+      unseen (put_word mem l.address l.word) ls (sym (when_false _ _ _ e) ∙ h) a o
       ∙ put_side L fit mem l.address l.word a (λ q. true≢false (sym o ∙ q ∙ e)))
 
   -- two modules with the same words outside

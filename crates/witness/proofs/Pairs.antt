@@ -5,8 +5,8 @@ use mathlib.Core.List.{List, [], ◌∷◌}
 use Prim.Native.Nat.{ℕ, zero, suc}
 use lib.Dec.{eqb}
 use borrow.Author.Tests.{eq-eqb}
-use Rattle.base.specs.Test.{if◌then◌else◌, any}
-use Rattle.base.proofs.Tests.{if_true}
+use Rattle.base.specs.Test.{when◌then◌else◌, any}
+use Rattle.base.proofs.Tests.{when_true}
 use Rattle.layout.specs.declared.sections.Layout.{Layout}
 use Rattle.layout.specs.Rules.{accepted}
 use Rattle.definition.specs.Setting.{Setting}
@@ -79,7 +79,7 @@ shown_computes = tt
 unfoldable pub equal_as_far : List ℕ → List ℕ → Bool
 equal_as_far [] ys = true
 equal_as_far (x ∷ xs) [] = true
-equal_as_far (x ∷ xs) (y ∷ ys) = if eqb x y then equal_as_far xs ys else false
+equal_as_far (x ∷ xs) (y ∷ ys) = when eqb x y then equal_as_far xs ys else false
 
 seen_equal : (number : View → ℕ) (xs ys : List Sighting) → AgreeAsFar xs ys
     → equal_as_far (seen_by number xs) (seen_by number ys) ≡ true
@@ -87,12 +87,12 @@ unfolding seen_by equal_as_far
 seen_equal number [] ys h = refl
 seen_equal number (x ∷ xs) [] h = refl
 seen_equal number (x ∷ xs) (y ∷ ys) h =
-    if_true _ _ _ (eq-eqb _ _ (ap (λ (z : Sighting). number (view_before z)) h.0)) ∙ seen_equal number xs ys h.1
+    when_true _ _ _ (eq-eqb _ _ (ap (λ (z : Sighting). number (view_before z)) h.0)) ∙ seen_equal number xs ys h.1
 
 -- one visit each, ended so related
 pub one_visit : (Related : VisitEnd → VisitEnd → Type 0) (T s u : ℕ) (e f : VisitEnd) → Related e f
     → EndsRelated Related T (record { start = s; fate = ended e } ∷ []) (record { start = u; fate = ended f } ∷ [])
-unfolding any if◌then◌else◌
+unfolding any when◌then◌else◌
 one_visit Related T s u e f r zero h = r
 one_visit Related T s u e f r (suc k) h = absurd (false≢true h)
 

@@ -4,9 +4,9 @@ use mathlib.Core.Bool.{Bool, true, false, not, true≢false}
 use mathlib.Core.List.{List, [], ◌∷◌}
 use Prim.Native.Nat.{ℕ}
 use borrow.Author.Tests.{not-false}
-use Rattle.base.specs.Test.{if◌then◌else◌, all}
+use Rattle.base.specs.Test.{when◌then◌else◌, all}
 use Rattle.base.specs.Word.{drop_bit0, sum16}
-use Rattle.base.proofs.Tests.{cases, each, if_true, if_false, choose}
+use Rattle.base.proofs.Tests.{cases, each, when_true, when_false, choose}
 use Rattle.rows.specs.declared.row.Row.{Row}
 use Rattle.rows.specs.declared.read.Begun.{Begun}
 use Rattle.rows.specs.declared.read.Begun.TheVariants.{Nothing, Found}
@@ -30,17 +30,17 @@ use Rattle.definition.proofs.instruction.InstructionLaws.{is_reti_lem}
 
 -- two tests that do not both hold: what follows, and from what it follows
 pub not_second : (t u : Bool) → all (t ∷ u ∷ []) ≡ false → t ≡ true → u ≡ false
-unfolding all if◌then◌else◌
+unfolding all when◌then◌else◌
 not_second true true e h = e
 not_second true false e h = refl
 not_second false u e h = cc
 
 pub first_fails : (t u : Bool) → t ≡ false → all (t ∷ u ∷ []) ≡ false
 unfolding all
-first_fails t u e = if_false _ _ _ e
+first_fails t u e = when_false _ _ _ e
 
 pub second_fails : (t u : Bool) → u ≡ false → all (t ∷ u ∷ []) ≡ false
-unfolding all if◌then◌else◌
+unfolding all when◌then◌else◌
 second_fails true u e = rw e
 second_fails false u e = refl
 
@@ -49,20 +49,20 @@ pub each_may : (L : Layout) (from : ℕ) (right : Right) (a : ℕ) (addresses : 
     → (may L from right (drop_bit0 a) ≡ true) × (all_may L from right addresses ≡ true)
 unfolding all_may
 each_may L from right a addresses e =
-    cases (may L from right (drop_bit0 a)) (λ h. (h, sym (if_true _ _ _ h) ∙ e)) (λ h. absurd (true≢false (sym e ∙ if_false _ _ _ h)))
+    cases (may L from right (drop_bit0 a)) (λ h. (h, sym (when_true _ _ _ h) ∙ e)) (λ h. absurd (true≢false (sym e ∙ when_false _ _ _ h)))
 
 -- cause 4 as one test, and the second word, or 0 where there is none
 one_test : (t s : Bool) (f : ℕ → Judged) (j : Judged) (w : ℕ)
-    → (if t then if s then f w else j else f 0) ≡ (if all (t ∷ not s ∷ []) then j else f (if t then w else 0))
-unfolding all if◌then◌else◌
+    → (when t then when s then f w else j else f 0) ≡ (when all (t ∷ not s ∷ []) then j else f (when t then w else 0))
+unfolding all when◌then◌else◌
 one_test true true f j w = refl
 one_test true false f j w = refl
 one_test false s f j w = refl
 
 pub second_together : (L : Layout) (held : Bool) (rs mem : List ℕ) (b : Begun)
     → judge_second L held rs mem b
-    ≡ (if all (two_words b ∷ not (same_side L (pc rs) (sum16 (pc rs) 2)) ∷ []) then Faulty SecondSide
-    else judge_words L held rs (finished b (if two_words b then word_at mem (sum16 (pc rs) 2) else 0)))
+    ≡ (when all (two_words b ∷ not (same_side L (pc rs) (sum16 (pc rs) 2)) ∷ []) then Faulty SecondSide
+    else judge_words L held rs (finished b (when two_words b then word_at mem (sum16 (pc rs) 2) else 0)))
 unfolding judge_second
 second_together L held rs mem b = one_test _ _ (λ w. judge_words L held rs (finished b w)) _ _
 

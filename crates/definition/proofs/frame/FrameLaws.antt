@@ -11,7 +11,7 @@ use Rattle.base.specs.Limits.{memory_bytes}
 use Rattle.base.specs.FirstFailure.{first_failure}
 use Rattle.base.specs.Word.{drop_bit0, is_even, difference16}
 use Rattle.base.specs.declared.refusal.Refusal.TheVariants.{Distance, Clock}
-use Rattle.base.proofs.Tests.{each, every, if_true, choose}
+use Rattle.base.proofs.Tests.{each, every, when_true, choose}
 use Rattle.base.specs.declared.verdict.Verdict.{Verdict}
 use Rattle.base.specs.declared.verdict.Verdict.TheVariants.{Taken as taken, Refused as refused}
 use Rattle.isa.specs.declared.instruction.Instruction.{Instruction}
@@ -232,5 +232,5 @@ DistanceOrClock v = (v ≡ taken) ⊎ ((v ≡ refused Distance) ⊎ (v ≡ refus
 pub only_distance_or_clock : OnlyDistanceOrClock
 unfolding OnlyDistanceOrClock first_failure
 only_distance_or_clock S w budget s =
-    rw (if_true _ _ _ s.memory, if_true _ _ _ s.layout, if_true _ _ _ s.timetable, if_true _ _ _ s.frame)
+    rw (when_true _ _ _ s.memory, when_true _ _ _ s.layout, when_true _ _ _ s.timetable, when_true _ _ _ s.frame)
     (choose DistanceOrClock _ (λ d. choose DistanceOrClock _ (λ c. inl refl) (λ c. inr (inr refl))) (λ d. inr (inl refl)))

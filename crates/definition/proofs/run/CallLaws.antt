@@ -5,7 +5,7 @@ use mathlib.Core.List.{List}
 use Prim.Native.Nat.{ℕ, ◌≤◌}
 use lib.ListN.{length}
 use borrow.Author.Tests.{eqb-true, leb-true}
-use Rattle.base.specs.Test.{if◌then◌else◌}
+use Rattle.base.specs.Test.{when◌then◌else◌}
 use Rattle.base.specs.declared.refusal.Refusal.{Refusal}
 use Rattle.base.specs.declared.verdict.Verdict.{Verdict}
 use Rattle.base.specs.declared.verdict.Verdict.TheVariants.{Taken as taken, Refused as refused}
@@ -135,7 +135,7 @@ module _ (S : Setting) (w : World) (v : Verdict) where
 -- ---- every call
 
 pub refusals_in_order : RefusalsInOrder
-unfolding RefusalsInOrder in_order if◌then◌else◌
+unfolding RefusalsInOrder in_order when◌then◌else◌
 refusals_in_order S budget w = (refl, refl, refl)
 
 pub refused_untouched : RefusedUntouched

@@ -3,7 +3,7 @@ use mathlib.Core.Path.{◌≡◌, refl, sym, ◌∙◌}
 use mathlib.Core.Bool.{Bool, true, false, true≢false}
 use mathlib.Core.List.{List}
 use Prim.Native.Nat.{ℕ}
-use Rattle.base.specs.Test.{if◌then◌else◌}
+use Rattle.base.specs.Test.{when◌then◌else◌}
 use Rattle.base.specs.Word.{is_even}
 use Rattle.base.proofs.Tests.{each, choose_both}
 use Rattle.isa.specs.declared.instruction.Instruction.{Instruction}
@@ -66,7 +66,7 @@ module _ (S : Setting) (fit : accepted S.layout ≡ true) (rs : List ℕ) (t : T
 
   step_alike : (v u : SavedContext) → is_held v ≡ is_held u → is_even (pc rs) ≡ true
       → SeenAlike S (step S (here v) mem) (step S (there u) bytes)
-  unfolding step if◌then◌else◌
+  unfolding step when◌then◌else◌
   step_alike v u h e =
       rw (← h, ← judged_alike S fit rs mem bytes s o (is_held v) e p q) (judged_step_alike v u h _ refl)
 

@@ -4,7 +4,7 @@ use mathlib.Core.Bool.{false}
 use mathlib.Core.List.{List}
 use Prim.Native.Nat.{ℕ, ◌+◌, ◌≤◌}
 use native.Mathlib.Omega.{arith}
-use Rattle.base.proofs.Tests.{if_true, choose}
+use Rattle.base.proofs.Tests.{when_true, choose}
 use Rattle.isa.specs.declared.instruction.Instruction.{Instruction}
 use Rattle.definition.specs.Setting.{Setting}
 use Rattle.definition.specs.declared.state.SavedContext.{SavedContext}
@@ -79,4 +79,4 @@ clock_rises S m mem r =
 
 pub halted_stays : HaltedStays
 unfolding HaltedStays step
-halted_stays S m mem h = if_true _ _ _ h
+halted_stays S m mem h = when_true _ _ _ h

@@ -6,7 +6,7 @@ use Prim.Native.Nat.{ℕ, zero, suc}
 use native.Mathlib.Omega.{arith}
 use lib.ListN.{set}
 use borrow.Author.Tests.{eq-eqb, leb-true}
-use Rattle.base.proofs.Tests.{cases, every, if_true, if_false, choose}
+use Rattle.base.proofs.Tests.{cases, every, when_true, when_false, choose}
 use Rattle.isa.specs.declared.instruction.Instruction.{Instruction}
 use Rattle.layout.specs.Sections.{inside}
 use Rattle.alu.specs.Status.{gie}
@@ -59,17 +59,17 @@ next_gie S m mem i h = rw h (gie_kept_inside m.registers mem _ i)
 pub due_at : (m : State) (s : ℕ) → due m ≡ At s → (gie (sr m.registers) ≡ true) × (m.time.slot ≡ At s)
 unfolding due
 due_at m s e =
-    cases (gie (sr m.registers)) (λ g. (g, sym (if_true _ _ _ g) ∙ e))
-    (λ g. let f = if_false _ m.time.slot Never g in (cc, cc))
+    cases (gie (sr m.registers)) (λ g. (g, sym (when_true _ _ _ g) ∙ e))
+    (λ g. let f = when_false _ m.time.slot Never g in (cc, cc))
 
 pub at_due : (m : State) (s : ℕ) → gie (sr m.registers) ≡ true → m.time.slot ≡ At s → due m ≡ At s
 unfolding due
-at_due m s g e = if_true _ _ _ g ∙ e
+at_due m s g e = when_true _ _ _ g ∙ e
 
 -- no interrupt is due: where GIE is set the slot is empty
 pub due_never : (m : State) → due m ≡ Never → NothingDue m
 unfolding due
-due_never m e g = sym (if_true _ _ _ g) ∙ e
+due_never m e g = sym (when_true _ _ _ g) ∙ e
 
 -- a return that chains does so whatever GIE is
 pub chains_whatever_gie : ChainsWhateverGie

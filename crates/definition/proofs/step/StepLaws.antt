@@ -3,8 +3,8 @@ use mathlib.Core.Path.{◌≡◌, refl, sym, ◌∙◌, ap, subst}
 use mathlib.Core.Bool.{Bool, true, false}
 use mathlib.Core.List.{List}
 use Prim.Native.Nat.{ℕ, ◌+◌}
-use Rattle.base.specs.Test.{if◌then◌else◌, all}
-use Rattle.base.proofs.Tests.{if_false, choose}
+use Rattle.base.specs.Test.{when◌then◌else◌, all}
+use Rattle.base.proofs.Tests.{when_false, choose}
 use Rattle.isa.specs.declared.instruction.Instruction.{Instruction}
 use Rattle.isa.specs.declared.instruction.Instruction.TheVariants.{Reti}
 use Rattle.isa.specs.Cycles.{cycles_of}
@@ -80,7 +80,7 @@ module _ (S : Setting) (m : State) (mem : List ℕ) where
       → performed S m mem v i ≡ ordinary S m mem i
   unfolding performed
   performed_ordinary Unheld i e = refl
-  performed_ordinary (Held previous age) i e = if_false _ _ _ (not_second true (is_reti i) e refl)
+  performed_ordinary (Held previous age) i e = when_false _ _ _ (not_second true (is_reti i) e refl)
 
   interrupted_way : (i : Instruction) → Runs i → (t : Bool) → inside S.layout (pc m.registers) ≡ t → (d : Stamp) → due (next i) ≡ d
       → Way (interrupted S t Ran (next i) (bytes m mem i) d)
@@ -110,7 +110,7 @@ module _ (S : Setting) (m : State) (mem : List ℕ) where
   resumed_way previous age r (At s) e = chains previous age s r e
 
   performed_way : (v : SavedContext) → m.context ≡ v → (i : Instruction) → judged S (world m mem) ≡ Acts i → Way (performed S m mem v i)
-  unfolding performed all if◌then◌else◌
+  unfolding performed all when◌then◌else◌
   performed_way Unheld h i e = ordinary_way i e (ap (λ (v : SavedContext). resuming (is_held v) i) h)
   performed_way (Held previous age) h i e =
       choose Way (is_reti i)
@@ -157,7 +157,7 @@ module _ (S : Setting) (m : State) (mem : List ℕ) where
   module _ (running : m.halted ≡ false) where
     running_step : step S m mem ≡ step_judged S m mem (judged S (world m mem))
     unfolding step
-    running_step = if_false _ _ _ running
+    running_step = when_false _ _ _ running
 
     -- a step of a running machine goes one of these ways
     pub way : Way (step S m mem)
@@ -175,7 +175,7 @@ module _ (S : Setting) (m : State) (mem : List ℕ) where
     pub step_runs : (i : Instruction) → Runs i
         → step S m mem ≡ interrupted S (inside S.layout (pc m.registers)) Ran (next i) (bytes m mem i) (due (next i))
     unfolding ordinary executed
-    step_runs i r = step_acts i r.acting ∙ performed_ordinary m.context i r.staying ∙ if_false _ _ _ r.going
+    step_runs i r = step_acts i r.acting ∙ performed_ordinary m.context i r.staying ∙ when_false _ _ _ r.going
 
     -- an instruction inside, into which a request breaks
     pub step_pads : (i : Instruction) (s : ℕ) → judged S (world m mem) ≡ Acts i → inside S.layout (pc m.registers) ≡ true → due (next i) ≡ At s
@@ -185,7 +185,7 @@ module _ (S : Setting) (m : State) (mem : List ℕ) where
 
     pub step_returns : (previous age : ℕ) → Returns previous age
         → step S m mem ≡ resumed S (after_reti S m) previous age m.saved mem (after_reti S m).slot
-    unfolding performed if◌then◌else◌
+    unfolding performed when◌then◌else◌
     step_returns previous age r =
         step_acts Reti r.acting ∙ ap (λ (v : SavedContext). performed S m mem v Reti) r.holding
 

@@ -1,6 +1,6 @@
 -- Whether a run goes on, of its count and budget. No promise rests on it.
 use Rattle.std.specs.Prelude.{ℕ, Bool, true, false, leb, ltb}
-use Rattle.base.specs.Test.{if◌then◌else◌}
+use Rattle.base.specs.Test.{when◌then◌else◌}
 use Rattle.base.specs.Limits.{last_clock}
 use Rattle.definition.specs.State.{World}
 use Rattle.steplines.specs.Page.{Page, end_page}
@@ -11,7 +11,7 @@ use Rattle.steplines.specs.declared.steps.Course.TheVariants.{Goes, Stops}
 -- the ends in order: halted, the clock, the budget
 unfoldable pub course : Bool → ℕ → ℕ → ℕ → Course
 course halted clock steps budget =
-    if halted then Stops Halted else if ltb last_clock clock then Stops Clock else if leb budget steps then Stops Spent else Goes
+    when halted then Stops Halted else when ltb last_clock clock then Stops Clock else when leb budget steps then Stops Spent else Goes
 
 -- further lines where the run goes on, else the end's line
 abbrev pub by_course : ℕ → World → Page → Course → Page

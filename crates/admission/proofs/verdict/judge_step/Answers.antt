@@ -1,10 +1,10 @@
 use mathlib.Core.Path.{sym}
-use Rattle.base.specs.Test.{if◌then◌else◌}
+use Rattle.base.specs.Test.{when◌then◌else◌}
 use Rattle.base.specs.FirstFailure.{first_failure}
 use Rattle.admission.proofs.verdict.judge_step.Goals as goal
 
 pub returns : goal.returns
-unfolding first_failure if◌then◌else◌
+unfolding first_failure when◌then◌else◌
 returns c =
     rw (
       sym c.clock_allowed.ensures,

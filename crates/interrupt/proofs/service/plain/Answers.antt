@@ -1,5 +1,5 @@
 use native.Mathlib.Omega.{arith}
-use Rattle.base.specs.Test.{if◌then◌else◌}
+use Rattle.base.specs.Test.{when◌then◌else◌}
 use Rattle.base.proofs.Tests.{fails, holds}
 use Rattle.definition.specs.Time.{emptied}
 use Rattle.definition.specs.Interrupt.{reset, plain}
@@ -7,7 +7,7 @@ use Rattle.clock.proofs.UpcomingLaws.{can_pass_later}
 use Rattle.interrupt.proofs.service.plain.Goals as goal
 
 pub returns-then-not-both : goal.returns-then-not-both
-unfolding plain reset if◌then◌else◌
+unfolding plain reset when◌then◌else◌
 returns-then-not-both c = λ h.
     let t = fails c.both.ensures c.if-not-both.true in
     let u = simp (
@@ -21,7 +21,7 @@ returns-then-not-both c = λ h.
     (simp (c.reset.ensures c.args.layout (can_pass_later h _ _ (omega arith) (omega arith)), u), simp u)
 
 pub returns : goal.returns
-unfolding plain if◌then◌else◌ emptied
+unfolding plain when◌then◌else◌ emptied
 returns c = λ h.
     let t = holds c.both.ensures c.if-not-both.false in
     let u = simp (

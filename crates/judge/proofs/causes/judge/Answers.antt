@@ -1,14 +1,14 @@
 use mathlib.Core.Path.{sym}
-use Rattle.base.specs.Test.{if◌then◌else◌}
+use Rattle.base.specs.Test.{when◌then◌else◌}
 use Rattle.definition.specs.Judge.{judge}
 use Rattle.judge.proofs.causes.judge.Goals as goal
 
 pub returns-then-not-may : goal.returns-then-not-may
-unfolding judge if◌then◌else◌
+unfolding judge when◌then◌else◌
 returns-then-not-may c = simp (c.if-not-may.true, sym c.may.ensures, sym c.read_register-pc.ensures)
 
 pub returns-then-both : goal.returns-then-both
-unfolding judge if◌then◌else◌
+unfolding judge when◌then◌else◌
 returns-then-both c = simp (
   c.if-both.true,
   sym c.both.ensures,
@@ -19,7 +19,7 @@ returns-then-both c = simp (
 )
 
 pub returns : goal.returns
-unfolding judge if◌then◌else◌
+unfolding judge when◌then◌else◌
 returns c = simp (
   sym c.judge_first.ensures,
   sym c.begin.ensures,

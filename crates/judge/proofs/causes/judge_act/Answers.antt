@@ -1,10 +1,10 @@
 use mathlib.Core.Path.{sym}
-use Rattle.base.specs.Test.{if◌then◌else◌}
+use Rattle.base.specs.Test.{when◌then◌else◌}
 use Rattle.definition.specs.Judge.{judge_act}
 use Rattle.judge.proofs.causes.judge_act.Goals as goal
 
 pub returns-then-both : goal.returns-then-both
-unfolding judge_act if◌then◌else◌
+unfolding judge_act when◌then◌else◌
 returns-then-both c = simp (
   c.if-both.true,
   sym c.both.ensures,
@@ -13,7 +13,7 @@ returns-then-both c = simp (
 )
 
 pub returns-then-both-2 : goal.returns-then-both-2
-unfolding judge_act if◌then◌else◌
+unfolding judge_act when◌then◌else◌
 returns-then-both-2 c = simp (
   c.if-both-2.true,
   sym c.both-2.ensures,
@@ -25,7 +25,7 @@ returns-then-both-2 c = simp (
 )
 
 pub returns-then-not-reads_may : goal.returns-then-not-reads_may
-unfolding judge_act if◌then◌else◌
+unfolding judge_act when◌then◌else◌
 returns-then-not-reads_may c = simp (
   c.if-not-reads_may.true,
   sym c.reads_may.ensures,
@@ -39,7 +39,7 @@ returns-then-not-reads_may c = simp (
 )
 
 pub returns-then-not-writes_may : goal.returns-then-not-writes_may
-unfolding judge_act if◌then◌else◌
+unfolding judge_act when◌then◌else◌
 returns-then-not-writes_may c = simp (
   c.if-not-writes_may.true,
   sym c.writes_may.ensures,
@@ -55,7 +55,7 @@ returns-then-not-writes_may c = simp (
 )
 
 pub returns : goal.returns
-unfolding judge_act if◌then◌else◌
+unfolding judge_act when◌then◌else◌
 returns c = simp (
   c.if-not-writes_may.false,
   sym c.writes_may.ensures,

@@ -1,10 +1,10 @@
 use mathlib.Core.Path.{sym}
-use Rattle.base.specs.Test.{if◌then◌else◌}
+use Rattle.base.specs.Test.{when◌then◌else◌}
 use Rattle.definition.proofs.cause.JudgeLaws.{second_together}
 use Rattle.judge.proofs.causes.judge_second.Goals as goal
 
 pub returns-then-both : goal.returns-then-both
-unfolding if◌then◌else◌
+unfolding when◌then◌else◌
 returns-then-both c =
     let a = c.args in
     simp (
@@ -18,7 +18,7 @@ returns-then-both c =
     )
 
 pub returns : goal.returns
-unfolding if◌then◌else◌
+unfolding when◌then◌else◌
 returns c =
     let a = c.args in
     simp (

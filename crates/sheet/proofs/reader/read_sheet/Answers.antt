@@ -1,14 +1,14 @@
 use mathlib.Core.Path.{sym, ◌∙◌}
 use native.Mathlib.Omega.{arith}
 use borrow.Author.Tests.{ltb-true, ltb-false, lt-leb}
-use Rattle.base.specs.Test.{if◌then◌else◌}
+use Rattle.base.specs.Test.{when◌then◌else◌}
 use Rattle.base.proofs.Tests.{fails, holds}
 use Rattle.sheet.specs.Sheet.{sheet_answer}
 use Rattle.sheet.proofs.SheetLaws.{rest_shorter, first_last, first_here, sheet_lines, sheet_promised}
 use Rattle.sheet.proofs.reader.read_sheet.Goals as goal
 
 pub returns-then-sheet-gt-MOST_SHEET_BYTES : goal.returns-then-sheet-gt-MOST_SHEET_BYTES
-unfolding sheet_answer if◌then◌else◌
+unfolding sheet_answer when◌then◌else◌
 returns-then-sheet-gt-MOST_SHEET_BYTES c = sheet_promised _ _ (simp (lt-leb _ _ c.if-sheet-gt-MOST_SHEET_BYTES.true))
 
 pub returns-then-not-holds_byte : goal.returns-then-not-holds_byte
@@ -34,7 +34,7 @@ returns-in_default-first_of c =
     sheet_promised _ _ (sym (e ∙ rw (t, u)))
 
 pub returns-then-not-accepted : goal.returns-then-not-accepted
-unfolding if◌then◌else◌
+unfolding when◌then◌else◌
 returns-then-not-accepted c =
     let s = c.args.sheet.now in
     let h = ltb-true _ _ (holds c.holds_byte.ensures c.if-not-holds_byte.false) in
@@ -51,7 +51,7 @@ read_body-requires c =
     simp c.rest-body.ensures (omega arith)
 
 pub returns : goal.returns
-unfolding if◌then◌else◌
+unfolding when◌then◌else◌
 returns c =
     let s = c.args.sheet.now in
     let h = ltb-true _ _ (holds c.holds_byte.ensures c.if-not-holds_byte.false) in

@@ -3,7 +3,7 @@ use mathlib.Core.List.{[], ◌∷◌}
 use native.Mathlib.Omega.{arith}
 use lib.Dec.{ltb, leb}
 use borrow.Author.Tests.{ltb-true}
-use Rattle.base.specs.Test.{if◌then◌else◌}
+use Rattle.base.specs.Test.{when◌then◌else◌}
 use Rattle.base.proofs.Tests.{each}
 use Rattle.base.specs.Limits.{last_clock, most_stamps}
 use Rattle.sheet.specs.Sheet.{fits_timetable}
@@ -18,9 +18,9 @@ overflow_add-result c =
     omega (arith, ltb-true a.count most_stamps f)
 
 pub returns-then-fits_timetable : goal.returns-then-fits_timetable
-unfolding if◌then◌else◌
+unfolding when◌then◌else◌
 returns-then-fits_timetable c = simp (sym c.fits_timetable.ensures, c.if-fits_timetable.true)
 
 pub returns : goal.returns
-unfolding if◌then◌else◌
+unfolding when◌then◌else◌
 returns c = simp (sym c.fits_timetable.ensures, c.if-fits_timetable.false)

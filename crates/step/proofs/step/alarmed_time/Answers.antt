@@ -1,5 +1,5 @@
 use mathlib.Core.Path.{sym}
-use Rattle.base.specs.Test.{if◌then◌else◌}
+use Rattle.base.specs.Test.{when◌then◌else◌}
 use borrow.Author.Rules.{rules}
 use Rattle.step.proofs.step.alarmed_time.Goals as goal
 
@@ -10,7 +10,7 @@ pub returns-in-In : goal.returns-in-In
 returns-in-In c = λ h. search rules
 
 pub returns-in-Out : goal.returns-in-Out
-unfolding if◌then◌else◌
+unfolding when◌then◌else◌
 returns-in-Out c = λ h. simp (
   sym (c.set_alarm.ensures h),
   sym c.read_register.ensures,

@@ -1,6 +1,6 @@
 use mathlib.Core.Path.{refl}
 use native.Mathlib.Omega.{arith}
-use Rattle.base.proofs.Tests.{if_true}
+use Rattle.base.proofs.Tests.{when_true}
 use Rattle.definition.specs.Interrupt.{reset}
 use Rattle.definition.specs.Step.{step}
 use Rattle.clock.proofs.UpcomingLaws.{can_pass_later}
@@ -11,7 +11,7 @@ use Rattle.step.proofs.step.take_step.Goals as goal
 
 pub returns-then-m : goal.returns-then-m
 unfolding step
-returns-then-m c = λ h. yields (if_true _ _ _ c.if-m.true) (refl, refl)
+returns-then-m c = λ h. yields (when_true _ _ _ c.if-m.true) (refl, refl)
 
 pub returns-in-Faulty : goal.returns-in-Faulty
 unfolding reset

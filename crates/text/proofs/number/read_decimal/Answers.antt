@@ -1,21 +1,21 @@
 use mathlib.Core.Path.{sym, ◌∙◌}
 use native.Mathlib.Omega.{arith}
 use borrow.Author.Tests.{eq-eqb, ne_eqb}
-use Rattle.base.specs.Test.{if◌then◌else◌}
+use Rattle.base.specs.Test.{when◌then◌else◌}
 use Rattle.text.specs.Number.{decimal_of}
 use Rattle.text.proofs.NumberLaws.{digit_within, digits_unreadable, digits_full, digits_more, digits_end}
 use Rattle.text.proofs.number.read_decimal.Goals as goal
 
 pub returns-then-field-eq0 : goal.returns-then-field-eq0
-unfolding decimal_of if◌then◌else◌
+unfolding decimal_of when◌then◌else◌
 returns-then-field-eq0 c = simp (eq-eqb _ _ c.if-field-eq0.true)
 
 pub returns-then-is_zero_led : goal.returns-then-is_zero_led
-unfolding decimal_of if◌then◌else◌
+unfolding decimal_of when◌then◌else◌
 returns-then-is_zero_led c = simp (ne_eqb _ _ c.if-field-eq0.false, sym c.is_zero_led.ensures, c.if-is_zero_led.true)
 
 pub loop-i-init : goal.loop-i-init
-unfolding decimal_of if◌then◌else◌
+unfolding decimal_of when◌then◌else◌
 loop-i-init c = (omega arith, simp (ne_eqb _ _ c.if-field-eq0.false, sym c.is_zero_led.ensures, c.if-is_zero_led.false))
 
 pub returns-in_default : goal.returns-in_default

@@ -1,29 +1,29 @@
 use mathlib.Core.Path.{sym, ◌∙◌}
 use native.Mathlib.Omega.{arith}
 use borrow.Author.Tests.{eq-eqb, ne_eqb}
-use Rattle.base.specs.Test.{if◌then◌else◌}
+use Rattle.base.specs.Test.{when◌then◌else◌}
 use Rattle.text.specs.Number.{hex_of}
 use Rattle.text.proofs.NumberLaws.{digit_within}
 use Rattle.text.proofs.number.read_hex.Goals as goal
 
 pub returns-then-field-ne4 : goal.returns-then-field-ne4
-unfolding hex_of if◌then◌else◌
+unfolding hex_of when◌then◌else◌
 returns-then-field-ne4 c = simp (ne_eqb _ _ c.if-field-ne4.true)
 
 pub returns-in_default : goal.returns-in_default
-unfolding hex_of if◌then◌else◌
+unfolding hex_of when◌then◌else◌
 returns-in_default c = simp (eq-eqb _ _ c.if-field-ne4.false, (sym c.hex_digit.ensures.0 ∙ c.in_default.is))
 
 pub returns-in_default-hex_digit : goal.returns-in_default-hex_digit
-unfolding hex_of if◌then◌else◌
+unfolding hex_of when◌then◌else◌
 returns-in_default-hex_digit c = simp (eq-eqb _ _ c.if-field-ne4.false, (sym c.hex_digit.ensures.0 ∙ c.in-Parsed.is), (sym c.hex_digit-2.ensures.0 ∙ c.in_default-hex_digit.is))
 
 pub returns-in_default-hex_digit-2 : goal.returns-in_default-hex_digit-2
-unfolding hex_of if◌then◌else◌
+unfolding hex_of when◌then◌else◌
 returns-in_default-hex_digit-2 c = simp (eq-eqb _ _ c.if-field-ne4.false, (sym c.hex_digit.ensures.0 ∙ c.in-Parsed.is), (sym c.hex_digit-2.ensures.0 ∙ c.in-Parsed-hex_digit.is), (sym c.hex_digit-3.ensures.0 ∙ c.in_default-hex_digit-2.is))
 
 pub returns-in_default-hex_digit-3 : goal.returns-in_default-hex_digit-3
-unfolding hex_of if◌then◌else◌
+unfolding hex_of when◌then◌else◌
 returns-in_default-hex_digit-3 c = simp (eq-eqb _ _ c.if-field-ne4.false, (sym c.hex_digit.ensures.0 ∙ c.in-Parsed.is), (sym c.hex_digit-2.ensures.0 ∙ c.in-Parsed-hex_digit.is), (sym c.hex_digit-3.ensures.0 ∙ c.in-Parsed-hex_digit-2.is), (sym c.hex_digit-4.ensures.0 ∙ c.in_default-hex_digit-3.is))
 
 pub overflow_mul-result : goal.overflow_mul-result
@@ -59,5 +59,5 @@ overflow_add-result-3 c =
     omega arith
 
 pub returns : goal.returns
-unfolding hex_of if◌then◌else◌
+unfolding hex_of when◌then◌else◌
 returns c = simp (eq-eqb _ _ c.if-field-ne4.false, (sym c.hex_digit.ensures.0 ∙ c.in-Parsed.is), (sym c.hex_digit-2.ensures.0 ∙ c.in-Parsed-hex_digit.is), (sym c.hex_digit-3.ensures.0 ∙ c.in-Parsed-hex_digit-2.is), (sym c.hex_digit-4.ensures.0 ∙ c.in-Parsed-hex_digit-3.is))

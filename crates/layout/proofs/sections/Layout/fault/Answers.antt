@@ -1,15 +1,15 @@
-use Rattle.base.specs.Test.{if◌then◌else◌}
+use Rattle.base.specs.Test.{when◌then◌else◌}
 use Rattle.base.specs.FirstFailure.{first_failure}
 use Rattle.base.proofs.Tests.{fails, holds}
 use Rattle.layout.specs.Rules.{layout_fault}
 use Rattle.layout.proofs.sections.Layout.fault.Goals as goal
 
 pub returns-then-not-all_even : goal.returns-then-not-all_even
-unfolding layout_fault first_failure if◌then◌else◌
+unfolding layout_fault first_failure when◌then◌else◌
 returns-then-not-all_even c = simp (fails c.all_even.ensures c.if-not-all_even.true)
 
 pub returns-then-not-all_filled : goal.returns-then-not-all_filled
-unfolding layout_fault first_failure if◌then◌else◌
+unfolding layout_fault first_failure when◌then◌else◌
 returns-then-not-all_filled c =
     simp (
       holds c.all_even.ensures c.if-not-all_even.false,
@@ -17,7 +17,7 @@ returns-then-not-all_filled c =
     )
 
 pub returns-then-not-is_apart : goal.returns-then-not-is_apart
-unfolding layout_fault first_failure if◌then◌else◌
+unfolding layout_fault first_failure when◌then◌else◌
 returns-then-not-is_apart c =
     simp (
       holds c.all_even.ensures c.if-not-all_even.false,
@@ -26,7 +26,7 @@ returns-then-not-is_apart c =
     )
 
 pub returns-then-not-outside : goal.returns-then-not-outside
-unfolding layout_fault first_failure if◌then◌else◌
+unfolding layout_fault first_failure when◌then◌else◌
 returns-then-not-outside c =
     simp (
       holds c.all_even.ensures c.if-not-all_even.false,
@@ -36,7 +36,7 @@ returns-then-not-outside c =
     )
 
 pub returns : goal.returns
-unfolding layout_fault first_failure if◌then◌else◌
+unfolding layout_fault first_failure when◌then◌else◌
 returns c =
     simp (
       holds c.all_even.ensures c.if-not-all_even.false,
