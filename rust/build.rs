@@ -1,4 +1,4 @@
-//! Links the static library that `rt lib embed` writes. `ENCLAVE_LIB_DIR` names the folder that
+//! Links the static library that `rt lib` writes in `crates/embed`. `ENCLAVE_LIB_DIR` names the folder that
 //! holds it by its whole path, where that is not `crates/embed/out` of this repository.
 
 use std::env;
@@ -19,7 +19,7 @@ fn main() {
     println!("cargo::rustc-link-lib=static=embed");
 }
 
-// Where `rt lib embed` writes the library.
+// Where `rt lib` writes the library.
 fn own_folder() -> PathBuf {
     let here = env::var_os("CARGO_MANIFEST_DIR").expect("set by cargo");
     PathBuf::from(here).join("../crates/embed/out")
@@ -28,7 +28,7 @@ fn own_folder() -> PathBuf {
 // What is wrong where the library is missing, and what to do.
 fn complaint(library: &Path) -> String {
     format!(
-        "{} is missing: run `rt lib embed` at the top of the repository, or set {VARIABLE} to the folder that holds libembed.a",
+        "{} is missing: run `rt lib` in the folder crates/embed of the repository, or set {VARIABLE} to the folder that holds libembed.a",
         library.display()
     )
 }

@@ -22,8 +22,8 @@
 //! [`raw::Places`] own memory from the heap, and [`Machine::from_fields`] takes a memory from there
 //! while it asks; start, step, run and a transcript allocate nothing.
 //!
-//! The static library is looked for in `crates/embed/out` of the repository, where `rt lib
-//! embed` writes it, or in the folder that the environment variable `ENCLAVE_LIB_DIR` names, by its
+//! The static library is looked for in `crates/embed/out` of the repository, where `rt lib` in
+//! `crates/embed` writes it, or in the folder that the environment variable `ENCLAVE_LIB_DIR` names, by its
 //! whole path, while this crate is built.
 //!
 //! ```

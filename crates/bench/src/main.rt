@@ -46,7 +46,7 @@ fn unwritten(errors: &mut impl Write, why: io::Error) -> ExitCode {
     ExitCode::SUCCESS
 }
 
-// Reads the sheet whole, and writes all that it leads to. What fails is told on standard error, and by no status.
+// Reads the sheet whole, and writes all that it leads to. What fails is told on standard error, and by a status only where the reader is gone.
 fn main(rt: HostRuntime) -> ExitCode {
     let mut sheet = [0u8; INPUT_BYTES];
     let mut page = [0u8; PAGE_BYTES];
