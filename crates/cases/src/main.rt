@@ -31,15 +31,13 @@ mod show;
 
 use console::input::read_whole;
 use std::io;
-use std::io::{BufWriter, Write};
 
-// The script is read whole and obeyed line by line. Lines of output are gathered and written together.
+// The script is read whole and obeyed line by line.
 fn main(rt: HostRuntime) -> io::Result<()> {
-    let mut script = vec![in rt.alloc(); 0u8; 131072]?;
+    let mut script = [0u8; 131072];
     let mut mem = [0u8; 65538];
     let mut times = [0u64; 4100];
-    let mut out = BufWriter::new(rt.alloc(), io::writer(&rt))?;
+    let mut out = io::writer(&rt);
     let n = read_whole(&rt, &mut out, &mut script)?;
-    play::play(&mut out, &script[..n], &mut mem, &mut times)?;
-    out.flush()
+    play::play(&mut out, &script[..n], &mut mem, &mut times)
 }

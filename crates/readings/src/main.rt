@@ -8,15 +8,13 @@ mod reading;
 use base::limits::{MEMORY_BYTES, MOST_STAMPS};
 use console::input::read_whole;
 use std::io;
-use std::io::{BufWriter, Write};
 
-// The sheets are read whole, and played in turn. Lines of output are gathered and written together.
+// The sheets are read whole, and played in turn.
 fn main(rt: HostRuntime) -> io::Result<()> {
     let mut sheets = vec![in rt.alloc(); 0u8; 524288]?;
     let mut mem = [0u8; MEMORY_BYTES];
     let mut stamps = [0u64; MOST_STAMPS];
-    let mut out = BufWriter::new(rt.alloc(), io::writer(&rt))?;
+    let mut out = io::writer(&rt);
     let n = read_whole(&rt, &mut out, &mut sheets)?;
-    reading::all(&mut out, &sheets[..n], &mut mem, &mut stamps)?;
-    out.flush()
+    reading::all(&mut out, &sheets[..n], &mut mem, &mut stamps)
 }

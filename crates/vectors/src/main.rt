@@ -7,17 +7,14 @@ mod sums;
 mod words;
 
 use std::io;
-use std::io::{BufWriter, Write};
 
-// Lines are gathered and written together.
 fn main(rt: HostRuntime) -> io::Result<()> {
-    let mut out = BufWriter::new(rt.alloc(), io::writer(&rt))?;
+    let mut out = io::writer(&rt);
     words::around_edges(&mut out)?;
     words::second_words(&mut out)?;
     words::written(&mut out)?;
     sums::all(&mut out)?;
     sums::inverted(&mut out)?;
     access::from_each(&mut out)?;
-    access::layouts(&mut out)?;
-    out.flush()
+    access::layouts(&mut out)
 }
