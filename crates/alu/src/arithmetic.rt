@@ -6,7 +6,7 @@ use base::word::{difference, sum};
 use rows::row::Operation;
 
 // A 16-bit result, and the carry and the overflow that go with it to the flags.
-#[derive(Clone, Copy)]
+#[derive(Clone, Copy, PartialEq, Eq, Debug)]
 pub struct Computed {
     pub result: u16,
     pub carry: bool,
@@ -28,14 +28,11 @@ fn not_zero(r: u16) -> bool
 }
 
 // Both operands have one sign and the result has the other.
+#[tactic(auto, unfolding(base::specs::Test::all))]
 fn sign_turns(a: bool, b: bool, r: bool) -> bool
     ensures { result ≡ sign_turns a b r }
 {
-    if a {
-        if b { !r } else { false }
-    } else {
-        if b { false } else { r }
-    }
+    a == b && a != r
 }
 
 // Destination plus source.
@@ -91,8 +88,7 @@ pub fn compute(o: Operation, s: u16, d: u16) -> Computed
 {
     match o {
         Operation::Add => add(s, d),
-        Operation::Sub => subtract(s, d),
-        Operation::Cmp => subtract(s, d),
+        Operation::Sub | Operation::Cmp => subtract(s, d),
         Operation::And => mask(s, d),
     }
 }

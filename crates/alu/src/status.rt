@@ -6,6 +6,7 @@ ghost use Rattle.alu.specs.Status.{gie, zero, flags_of, set_flags, keep_gie};
 use crate::arithmetic::{Computed, bit_15};
 
 // GIE: interrupts are allowed.
+#[tactic(auto, unfolding(crate::specs::Status::gie))]
 pub fn gie_is_set(sr: u16) -> bool
     ensures { result ≡ gie sr }
 {
@@ -13,6 +14,7 @@ pub fn gie_is_set(sr: u16) -> bool
 }
 
 // Z is set.
+#[tactic(auto, unfolding(crate::specs::Status::zero))]
 pub fn zero_is_set(sr: u16) -> bool
     ensures { result ≡ zero sr }
 {
@@ -27,6 +29,7 @@ fn bit(test: bool, weight: u16) -> u16
 }
 
 // C, Z, N and V in their places.
+#[tactic(auto, unfolding(crate::specs::Status::flags_of))]
 fn flags_of(c: Computed) -> u16
     ensures { (result ≡ flags_of c) × (result ≤ 0x107) }
 {
@@ -35,6 +38,7 @@ fn flags_of(c: Computed) -> u16
 }
 
 // The status with the flags of what was computed; its other bits stay.
+#[tactic(auto, unfolding(crate::specs::Status::set_flags, crate::specs::Status::without_flags))]
 pub fn set_flags(sr: u16, c: Computed) -> u16
     ensures { result ≡ set_flags sr c }
 {
@@ -42,6 +46,7 @@ pub fn set_flags(sr: u16, c: Computed) -> u16
 }
 
 // The new status with the old one's GIE.
+#[tactic(auto, unfolding(crate::specs::Status::keep_gie))]
 pub fn keep_gie(old: u16, new: u16) -> u16
     ensures { result ≡ keep_gie old new }
 {

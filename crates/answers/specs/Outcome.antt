@@ -5,6 +5,7 @@ use Rattle.answers.specs.declared.answer.Cause.TheVariants.{Execute, Reentry, Fi
 use Rattle.answers.specs.declared.answer.Outcome.{Outcome}
 use Rattle.answers.specs.declared.answer.Outcome.TheVariants.{Ran, Plain, Padded, Chained, Back, Reset, Halted}
 use Rattle.answers.specs.declared.answer.End.{End}
+use Rattle.answers.specs.declared.answer.Stopped.{Stopped}
 use Rattle.answers.specs.declared.answer.End.TheVariants.{Halted as HaltedEnd, Clock, Spent}
 
 -- 1 may not be executed; 2 entered while a visit is held; 3 the first word; 4 the second word's side; 5 the second word;
@@ -34,6 +35,10 @@ abbrev pub end_letter : End → ℕ
 end_letter HaltedEnd = 0x48
 end_letter Clock = 0x54
 end_letter Spent = 0x53
+
+-- where a run stopped: why, and how many steps it made
+abbrev pub stopped : End → ℕ → Stopped
+stopped e n = record { end = e; steps = n }
 
 -- the step reset the machine
 abbrev pub is_reset : Outcome → Bool

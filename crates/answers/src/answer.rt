@@ -2,10 +2,8 @@
 ghost use Rattle.std.specs.Prelude.{◌≡◌};
 ghost use Rattle.answers.specs.Outcome.{cause_number, kind_letter, end_letter};
 
-use base::refusal::Refusal;
-
 // Why a step resets the machine: the eight causes in their order.
-#[derive(Clone, Copy)]
+#[derive(Clone, Copy, Debug, PartialEq, Eq)]
 pub enum Cause {
     Execute,
     Reentry,
@@ -18,7 +16,7 @@ pub enum Cause {
 }
 
 // What a step did.
-#[derive(Clone, Copy)]
+#[derive(Clone, Copy, Debug, PartialEq, Eq)]
 pub enum Outcome {
     Ran,
     Plain,
@@ -30,40 +28,26 @@ pub enum Outcome {
 }
 
 // Why a run stopped.
-#[derive(Clone, Copy)]
+#[derive(Clone, Copy, Debug, PartialEq, Eq)]
 pub enum End {
     Halted,
     Clock,
     Spent,
 }
 
-// What start answers.
-#[derive(Clone, Copy)]
-pub enum StartAnswer {
-    Done,
-    Refused(Refusal),
+// Why a run stopped and how many steps it made.
+#[derive(Clone, Copy, Debug, PartialEq, Eq)]
+pub struct Stopped {
+    pub end: End,
+    pub steps: u64,
 }
 
-// What step answers: what the step did, or the refusal.
-#[derive(Clone, Copy)]
-pub enum StepAnswer {
-    Done(Outcome),
-    Refused(Refusal),
-}
+// The cause's number in document 01.
+impl From<Cause> for u8 {
+    ghost from_gives = { λ cause n. n ≡ cause_number cause };
 
-// What run answers: why it stopped and how many steps it made, or the refusal.
-#[derive(Clone, Copy)]
-pub enum RunAnswer {
-    Done(End, u64),
-    Refused(Refusal),
-}
-
-impl Cause {
-    // The cause's number in document 01.
-    pub fn number(self) -> u8
-        ensures { result ≡ cause_number self }
-    {
-        match self {
+    fn from(cause: Cause) -> u8 {
+        match cause {
             Cause::Execute => 1,
             Cause::Reentry => 2,
             Cause::FirstWord => 3,
@@ -77,7 +61,7 @@ impl Cause {
 }
 
 impl Outcome {
-    // The kind's letter on the bench sheet.
+    // The kind's letter on the bench sheet; a method, since `u8::from(outcome)` would not say that it is a letter.
     pub fn letter(self) -> u8
         ensures { result ≡ kind_letter self }
     {
@@ -94,7 +78,7 @@ impl Outcome {
 }
 
 impl End {
-    // The end's letter on the bench sheet.
+    // The end's letter on the bench sheet; a method, as for an outcome.
     pub fn letter(self) -> u8
         ensures { result ≡ end_letter self }
     {

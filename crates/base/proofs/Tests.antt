@@ -34,6 +34,9 @@ pub when_false : {A : Type 0} (t : Bool) (a b : A) → t ≡ false → (when t t
 unfolding when◌then◌else◌
 when_false t a b h = rw h
 
+-- both at once, for `using(base::proofs::Tests::choices)` on a function
+pub ruleset choices = (when_true, when_false)
+
 -- a choice between true and false is its test
 pub when_id : (t : Bool) → (when t then true else false) ≡ t
 unfolding when◌then◌else◌

@@ -1,9 +1,8 @@
-// What every layer shares: tests taken together, 16-bit words, the limits and the numbered refusals.
+// What every layer shares: 16-bit words, the limits and the numbered refusals.
 #![tactic(auto)]
 
 pub mod laws;
 pub mod limits;
+pub mod place;
 pub mod refusal;
-pub mod test;
-pub mod verdict;
 pub mod word;

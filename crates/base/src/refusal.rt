@@ -3,7 +3,7 @@ ghost use Rattle.std.specs.Prelude.{◌≡◌};
 ghost use Rattle.base.specs.Refusal.{refusal_number};
 
 // What a call can be refused for, by document 01's word for it.
-#[derive(Clone, Copy)]
+#[derive(Clone, Copy, Debug, PartialEq, Eq)]
 pub enum Refusal {
     Map,
     Fence,
@@ -16,12 +16,12 @@ pub enum Refusal {
     Word,
 }
 
-impl Refusal {
-    // The refusal's number in document 01's table.
-    pub fn number(self) -> u8
-        ensures { result ≡ refusal_number self }
-    {
-        match self {
+// The refusal's number in document 01's table.
+impl From<Refusal> for u8 {
+    ghost from_gives = { λ refusal n. n ≡ refusal_number refusal };
+
+    fn from(refusal: Refusal) -> u8 {
+        match refusal {
             Refusal::Map => 1,
             Refusal::Fence => 2,
             Refusal::Timetable => 3,

@@ -1,11 +1,9 @@
 -- Reading and writing undo one another, and reading looks at no second word beyond the length. Assumes nothing.
-use mathlib.Core.Path.{◌≡◌, refl, sym, ◌∙◌, ap}
-use mathlib.Core.Bool.{Bool, true, false, true≢false}
-use Prim.Native.Nat.{ℕ, ◌<◌}
-use native.Mathlib.Omega.{arith}
-use borrow.Author.Tests.{eqb-true, ltb-true, lt-ltb}
+use Rattle.std.proofs.Common.{◌≡◌, refl, sym, ◌∙◌, ap, Bool, true, false, true≢false, ℕ, ◌<◌, arith, Option, None, Some, Result, Ok, Err}
+use Rattle.std.proofs.lemmas.Bool.{eqb-true, ltb-true, lt-ltb}
 use Rattle.base.specs.Test.{when◌then◌else◌}
 use Rattle.base.proofs.Tests.{each, every, when_true, when_false, choose}
+use Rattle.base.specs.declared.refusal.Refusal.{Refusal}
 use Rattle.base.specs.declared.refusal.Refusal.TheVariants.{Word}
 use Rattle.rows.specs.declared.row.Operation.TheVariants.{Add, Sub, Cmp, And}
 use Rattle.rows.specs.declared.row.Row.{Row}
@@ -14,27 +12,29 @@ use Rattle.rows.specs.declared.row.Second.{Second}
 use Rattle.rows.specs.declared.row.Second.TheVariants.{Nothing as none, Exactly as exactly, Anything as anything}
 use Rattle.rows.specs.declared.row.Encoding.{Encoding}
 use Rattle.rows.specs.declared.read.Begun.{Begun}
-use Rattle.rows.specs.declared.read.Begun.TheVariants.{Nothing, Found}
-use Rattle.rows.specs.declared.write.Writing.{Writing}
-use Rattle.rows.specs.declared.write.Writing.TheVariants.{One, Two, Refused as Unwritten}
+use Rattle.rows.specs.declared.write.Words.{Words}
+use Rattle.rows.specs.declared.write.Words.TheVariants.{One, Two}
 use Rattle.rows.specs.Table.{DigitPosition, second, last, nowhere, digit_at, format_of, has_second, second_fits, first_word, s_digit, d_digit}
-use Rattle.rows.specs.Words.{has_word, begun, decodes, encodable, words_of, written, writing_refusal}
+use Rattle.rows.specs.Words.{has_word, found, begun, decodes, encodable, words_of, written, writing_refusal}
 use Rattle.rows.proofs.Rows.{has, word_of, taken, Begins, nothing, row, begun_begins, begun_row}
 use Rattle.isa.specs.declared.instruction.Operand.TheVariants.{Register, Pointed, Constant}
 use Rattle.isa.specs.declared.instruction.Instruction.{Instruction}
 use Rattle.isa.specs.declared.instruction.Instruction.TheVariants.{Hlt, In, Out, Jz, Reti, Nop, Jmp, Mov, Store, Compute, Not}
-use Rattle.isa.specs.declared.read.Reading.{Reading}
-use Rattle.isa.specs.declared.read.Reading.TheVariants.{Decoded, Refused}
+use Rattle.isa.specs.declared.read.Decoded.{Decoded}
 use Rattle.isa.specs.Encoding.{instruction_of, encoding_of}
 use Rattle.isa.specs.Cycles.{length_of}
-use Rattle.isa.specs.Words.{finished, reading, reading_refusal, writing}
+use Rattle.isa.specs.Words.{decoded, finished, reading, reading_refusal, writing}
 use Rattle.isa.specs.Laws.{first_words, ReadThenWritten, WrittenThenRead, SecondUnread}
 
+-- equal answers have equal values
+same_ok : {A B : Type 0} (x y : A) → ◌≡◌ {A = Result A B} (Ok x) (Ok y) → x ≡ y
+same_ok x y e = cc
+
 -- two answers that differ are not equal
-refused : {A : Type 0} {i : Instruction} {n : ℕ} → Refused Word ≡ Decoded i n → A
+refused : {A : Type 0} {i : Instruction} {n : ℕ} → Err Word ≡ decoded i n → A
 refused e = let z : ◌≡◌ {A = ℕ} 0 1 = cc in absurd (omega arith)
 
-unread : {A : Type 0} {i : Instruction} {n : ℕ} (v : ℕ) → finished Nothing v ≡ Decoded i n → A
+unread : {A : Type 0} {i : Instruction} {n : ℕ} (v : ℕ) → finished None v ≡ decoded i n → A
 unfolding finished
 unread v e = refused e
 
@@ -93,12 +93,12 @@ words_back NOT s d w v h = ap (Two w) (sym (eqb-true v _ h))
 
 written_back : (r : Row) (w v : ℕ) → has_word r w ≡ true → second_fits (format_of r).second v ≡ true
     → writing (instruction_of r (s_digit r w) (d_digit r w) v)
-    ≡ first_words (length_of (instruction_of r (s_digit r w) (d_digit r w) v)) w v
+    ≡ Ok (first_words (length_of (instruction_of r (s_digit r w) (d_digit r w) v)) w v)
 unfolding written
 written_back r w v h f =
     ap written (coded_back r w v) ∙ when_true _ _ _ (coded_encodable r w v h)
-    ∙ ap (λ (x : ℕ). words_of (format_of r).second x (constant (format_of r).second v)) (sym (word_of r w h))
-    ∙ words_back r _ _ w v f
+    ∙ ap (λ (x : ℕ). Ok (words_of (format_of r).second x (constant (format_of r).second v))) (sym (word_of r w h))
+    ∙ ap Ok (words_back r _ _ w v f)
 
 -- what a decoded row says
 record Decodes (r : Row) (s d v : ℕ) (i : Instruction) (n : ℕ) : Type 0 where
@@ -106,21 +106,22 @@ record Decodes (r : Row) (s d v : ℕ) (i : Instruction) (n : ℕ) : Type 0 wher
   pub is : instruction_of r s d v ≡ i
   pub long : length_of (instruction_of r s d v) ≡ n
 
-decoded_row : (r : Row) (s d v : ℕ) (i : Instruction) (n : ℕ) → finished (Found r s d) v ≡ Decoded i n → Decodes r s d v i n
+decoded_row : (r : Row) (s d v : ℕ) (i : Instruction) (n : ℕ) → finished (found r s d) v ≡ decoded i n → Decodes r s d v i n
 unfolding finished when◌then◌else◌
 decoded_row r s d v i n e = go (second_fits (format_of r).second v) refl e
   where
     go : (t : Bool) → second_fits (format_of r).second v ≡ t
-        → (when t then Decoded (instruction_of r s d v) (length_of (instruction_of r s d v)) else Refused Word) ≡ Decoded i n
+        → (when t then decoded (instruction_of r s d v) (length_of (instruction_of r s d v)) else Err Word) ≡ decoded i n
         → Decodes r s d v i n
-    go true h e = record { fits = h; is = cc; long = cc }
+    go true h e =
+        let d = same_ok _ _ e in record { fits = h; is = ap (λ (x : Decoded). x.instruction) d; long = ap (λ (x : Decoded). x.length) d }
     go false h e = refused e
 
 pub read_then_written : ReadThenWritten
 unfolding ReadThenWritten reading
 read_then_written w v i n e = go (begun w) (begun_begins w) e
   where
-    go : (b : Begun) → Begins w b → finished b v ≡ Decoded i n → writing i ≡ first_words n w v
+    go : (b : Option Begun) → Begins w b → finished b v ≡ decoded i n → writing i ≡ Ok (first_words n w v)
     go b nothing e = unread v e
     go b (row r h) e =
         let k = decoded_row r (s_digit r w) (d_digit r w) v i n e in
@@ -148,7 +149,7 @@ row_length (COMPUTE o) s d v = refl
 row_length NOT s d v = refl
 
 -- a row of one word does not look at a second
-one_word_row : (r : Row) (s d v u : ℕ) → has_second (format_of r).second ≡ false → finished (Found r s d) u ≡ finished (Found r s d) v
+one_word_row : (r : Row) (s d v u : ℕ) → has_second (format_of r).second ≡ false → finished (found r s d) u ≡ finished (found r s d) v
 unfolding finished when◌then◌else◌
 one_word_row HLT s d v u h = refl
 one_word_row IN s d v u h = refl
@@ -168,7 +169,7 @@ one_word_length : (t : Bool) → count t ≡ 1 → t ≡ false
 one_word_length true e = absurd (omega (arith, e))
 one_word_length false e = refl
 
-unread_row : (r : Row) (s d v u : ℕ) (i : Instruction) → finished (Found r s d) v ≡ Decoded i 1 → finished (Found r s d) u ≡ Decoded i 1
+unread_row : (r : Row) (s d v u : ℕ) (i : Instruction) → finished (found r s d) v ≡ decoded i 1 → finished (found r s d) u ≡ decoded i 1
 unread_row r s d v u i e =
     one_word_row r s d v u (one_word_length _ (sym (row_length r s d v) ∙ (decoded_row r s d v i 1 e).long)) ∙ e
 
@@ -176,13 +177,13 @@ pub second_unread : SecondUnread
 unfolding SecondUnread reading
 second_unread w v u i e = go (begun w) (begun_begins w) e
   where
-    go : (b : Begun) → Begins w b → finished b v ≡ Decoded i 1 → finished b u ≡ Decoded i 1
+    go : (b : Option Begun) → Begins w b → finished b v ≡ decoded i 1 → finished b u ≡ decoded i 1
     go b nothing e = unread v e
     go b (row r h) e = unread_row r _ _ v u i e
 
 -- the row that a first word came from
 begun_back : (r : Row) (s d : ℕ) → s_digit r (first_word r s d) ≡ s → d_digit r (first_word r s d) ≡ d
-    → (format_of r).takes s d ≡ true → begun (first_word r s d) ≡ Found r s d
+    → (format_of r).takes s d ≡ true → begun (first_word r s d) ≡ found r s d
 begun_back r s d p q t = begun_row r (first_word r s d) (has r (first_word r s d) (rw (p, q)) (rw (p, q) t)) ∙ rw (p, q)
 
 -- v is the second word, where there is one, of an instruction with the constant w
@@ -204,7 +205,7 @@ coded_of e h =
 
 begun_of : (i : Instruction) → Coded (encoding_of i)
     → begun (first_word (encoding_of i).row (encoding_of i).source (encoding_of i).destination)
-    ≡ Found (encoding_of i).row (encoding_of i).source (encoding_of i).destination
+    ≡ found (encoding_of i).row (encoding_of i).source (encoding_of i).destination
 unfolding first_word
 begun_of Hlt c = begun_back HLT 0 0 refl refl refl
 begun_of (In d) c = begun_back IN 0 d refl (omega (arith, c.d)) refl
@@ -224,7 +225,7 @@ begun_of (Compute And s d) c = begun_back (COMPUTE And) s d (omega (arith, c.s, 
 begun_of (Not d) c = begun_back NOT 0 d refl (omega (arith, c.d)) refl
 
 finished_of : (i : Instruction) (v : ℕ) → Follows (format_of (encoding_of i).row).second (encoding_of i).word v
-    → finished (Found (encoding_of i).row (encoding_of i).source (encoding_of i).destination) v ≡ Decoded i (length_of i)
+    → finished (found (encoding_of i).row (encoding_of i).source (encoding_of i).destination) v ≡ decoded i (length_of i)
 unfolding finished when◌then◌else◌
 finished_of Hlt v f = refl
 finished_of (In d) v f = refl
@@ -243,25 +244,25 @@ finished_of (Not d) v f = rw f
 -- an instruction that has words is read back from them
 read_back : (i : Instruction) (v : ℕ) → encodable (encoding_of i) ≡ true
     → Follows (format_of (encoding_of i).row).second (encoding_of i).word v
-    → reading (first_word (encoding_of i).row (encoding_of i).source (encoding_of i).destination) v ≡ Decoded i (length_of i)
+    → reading (first_word (encoding_of i).row (encoding_of i).source (encoding_of i).destination) v ≡ decoded i (length_of i)
 unfolding reading
 read_back i v h f =
-    ap (λ (b : Begun). finished b v) (begun_of i (coded_of (encoding_of i) h)) ∙ finished_of i v f
+    ap (λ (b : Option Begun). finished b v) (begun_of i (coded_of (encoding_of i) h)) ∙ finished_of i v f
 
 -- the words of an encoding
 abbrev first_of : Encoding → ℕ
 first_of e = first_word e.row e.source e.destination
 
-abbrev words_in : Encoding → Writing
+abbrev words_in : Encoding → Words
 words_in e = words_of (format_of e.row).second (first_of e) e.word
 
-wrote : (e : Encoding) (x : Writing) → (Unwritten Word ≡ x → ⊥) → written e ≡ x → (encodable e ≡ true) × (words_in e ≡ x)
+wrote : (e : Encoding) (x : Words) → written e ≡ Ok x → (encodable e ≡ true) × (words_in e ≡ x)
 unfolding written when◌then◌else◌
-wrote e x n p = go (encodable e) refl p
+wrote e x p = go (encodable e) refl p
   where
-    go : (t : Bool) → encodable e ≡ t → (when t then words_in e else Unwritten Word) ≡ x → (encodable e ≡ true) × (words_in e ≡ x)
-    go true h p = (h, p)
-    go false h p = absurd (n p)
+    go : (t : Bool) → encodable e ≡ t → (when t then Ok (words_in e) else Err Word) ≡ Ok x → (encodable e ≡ true) × (words_in e ≡ x)
+    go true h p = (h, same_ok _ _ p)
+    go false h p = let z : ◌≡◌ {A = ℕ} 0 1 = cc in absurd (omega arith)
 
 -- what is written as one word has no second, and what is written as two has the second word that was written
 record Wrote (x : Second) (c v f w : ℕ) (t : Bool) : Type 0 where
@@ -296,40 +297,36 @@ instruction_length (Not d) = refl
 
 read_wrote : (i : Instruction) (w v : ℕ) (t : Bool) → encodable (encoding_of i) ≡ true
     → Wrote (format_of (encoding_of i).row).second (encoding_of i).word v (first_of (encoding_of i)) w t
-    → reading w v ≡ Decoded i (count t)
+    → reading w v ≡ decoded i (count t)
 read_wrote i w v t h k =
     ap (λ (x : ℕ). reading x v) (sym k.first) ∙ read_back i v h k.follows
-    ∙ ap (Decoded i) (instruction_length i ∙ ap count k.two)
+    ∙ ap (decoded i) (instruction_length i ∙ ap count k.two)
 
 pub written_then_read : WrittenThenRead
 unfolding WrittenThenRead
 written_then_read i w v = (one, two)
   where
-    one : writing i ≡ One w → reading w v ≡ Decoded i 1
+    one : writing i ≡ Ok (One w) → reading w v ≡ decoded i 1
     one e =
-        let k = wrote (encoding_of i) (One w) (λ p. let z : ◌≡◌ {A = ℕ} 0 1 = cc in omega arith) e in
+        let k = wrote (encoding_of i) (One w) e in
         read_wrote i w v false k.0 (wrote_one _ _ v _ w k.1)
 
-    two : writing i ≡ Two w v → reading w v ≡ Decoded i 2
+    two : writing i ≡ Ok (Two w v) → reading w v ≡ decoded i 2
     two e =
-        let k = wrote (encoding_of i) (Two w v) (λ p. let z : ◌≡◌ {A = ℕ} 0 1 = cc in omega arith) e in
+        let k = wrote (encoding_of i) (Two w v) e in
         read_wrote i w v true k.0 (wrote_two _ _ v _ w k.1)
 
 -- a refusal has the number 9
-pub reading_number : (b : Begun) (v : ℕ) → reading_refusal (finished b v) ≡ (when decodes b v then 0 else 9)
+pub reading_number : (b : Option Begun) (v : ℕ) → reading_refusal (finished b v) ≡ (when decodes b v then 0 else 9)
 unfolding finished decodes
-reading_number Nothing v = sym (when_false false 0 9 refl)
-reading_number (Found r s d) v =
-    choose (λ (x : Reading). reading_refusal x ≡ (when second_fits (format_of r).second v then 0 else 9)) (second_fits (format_of r).second v)
+reading_number None v = sym (when_false false 0 9 refl)
+reading_number (Some b) v =
+    choose (λ (x : Result Decoded Refusal). reading_refusal x ≡ (when second_fits (format_of b.row).second v then 0 else 9))
+    (second_fits (format_of b.row).second v)
     (λ h. sym (when_true _ _ _ h)) (λ h. sym (when_false _ _ _ h))
-
-words_taken : (x : Second) (w v : ℕ) → writing_refusal (words_of x w v) ≡ 0
-words_taken none w v = refl
-words_taken (exactly u) w v = refl
-words_taken anything w v = refl
 
 pub writing_number : (e : Encoding) → writing_refusal (written e) ≡ (when encodable e then 0 else 9)
 unfolding written
 writing_number e =
-    choose (λ (x : Writing). writing_refusal x ≡ (when encodable e then 0 else 9)) (encodable e)
-    (λ h. words_taken (format_of e.row).second _ e.word ∙ sym (when_true _ _ _ h)) (λ h. sym (when_false _ _ _ h))
+    choose (λ (x : Result Words Refusal). writing_refusal x ≡ (when encodable e then 0 else 9)) (encodable e)
+    (λ h. sym (when_true _ _ _ h)) (λ h. sym (when_false _ _ _ h))

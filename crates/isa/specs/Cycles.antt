@@ -3,6 +3,8 @@ use Rattle.std.specs.Prelude.{ℕ, List, [], ◌∷◌, get_or}
 use Rattle.rows.specs.declared.row.Row.{Row}
 use Rattle.rows.specs.declared.row.Row.TheVariants.{Hlt as HLT, In as IN, Out as OUT, Jz as JZ, Reti as RETI, Nop as NOP, Jmp as JMP, Mov as MOV, Load as LOAD, Store as STORE, Immediate as IMMEDIATE, Compute as COMPUTE, Not as NOT}
 use Rattle.isa.specs.declared.instruction.Instruction.{Instruction}
+use Rattle.isa.specs.declared.table.Kind.{Kind}
+use Rattle.isa.specs.declared.table.Kind.TheVariants.{Hlt as K_Hlt, In as K_In, Out as K_Out, Jz as K_Jz, Reti as K_Reti, Nop as K_Nop, Jmp as K_Jmp, Mov as K_Mov, Load as K_Load, Store as K_Store, Immediate as K_Immediate, Compute as K_Compute, Not as K_Not}
 use Rattle.isa.specs.Encoding.{encoding_of}
 
 -- the kind of a row: the line of the table that it stands on, from 0
@@ -20,6 +22,22 @@ row_kind STORE = 9
 row_kind IMMEDIATE = 10
 row_kind (COMPUTE o) = 11
 row_kind NOT = 12
+
+-- the number of a kind of the code
+abbrev pub kind_number : Kind → ℕ
+kind_number K_Hlt = 0
+kind_number K_In = 1
+kind_number K_Out = 2
+kind_number K_Jz = 3
+kind_number K_Reti = 4
+kind_number K_Nop = 5
+kind_number K_Jmp = 6
+kind_number K_Mov = 7
+kind_number K_Load = 8
+kind_number K_Store = 9
+kind_number K_Immediate = 10
+kind_number K_Compute = 11
+kind_number K_Not = 12
 
 -- the kind of an instruction
 abbrev pub kind_of : Instruction → ℕ

@@ -2,7 +2,7 @@
 use rows::row::Operation;
 
 // What MOV moves: a register, the word that a register points at, a constant.
-#[derive(Clone, Copy)]
+#[derive(Clone, Copy, PartialEq, Eq, Debug)]
 pub enum Operand {
     Register(u8),
     Pointed(u8),
@@ -10,7 +10,7 @@ pub enum Operand {
 }
 
 // An instruction with its source and then its destination.
-#[derive(Clone, Copy)]
+#[derive(Clone, Copy, PartialEq, Eq, Debug)]
 pub enum Instruction {
     Hlt,
     In(u8),

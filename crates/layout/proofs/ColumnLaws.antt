@@ -1,9 +1,5 @@
 -- The column of the access table that an address has. Assumes nothing.
-use Prim.Native.Nat.{ℕ}
-use mathlib.Core.Path.{◌≡◌, refl, ◌∙◌, ap}
-use mathlib.Core.Bool.{Bool, true, false}
-use lib.Dec.{eqb}
-use borrow.Author.Tests.{eqb-true}
+use Rattle.std.proofs.Common.{ℕ, ◌≡◌, refl, ◌∙◌, ap, Bool, true, false, eqb, eqb-true}
 use Rattle.base.specs.Test.{when◌then◌else◌}
 use Rattle.base.proofs.Tests.{when_true, when_false}
 use Rattle.layout.specs.declared.sections.Layout.{Layout}

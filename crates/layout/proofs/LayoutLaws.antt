@@ -1,7 +1,5 @@
 -- The laws of the sections of a layout. Assumes nothing.
-use mathlib.Core.Path.{◌≡◌}
-use mathlib.Core.Bool.{true}
-use native.Mathlib.Omega.{arith}
+use Rattle.std.proofs.Common.{◌≡◌, true, arith}
 use Rattle.layout.specs.declared.sections.Layout.{Layout}
 use Rattle.layout.specs.declared.sections.Section.TheVariants.{Code}
 use Rattle.layout.specs.Sections.{section, entry}

@@ -1,25 +1,17 @@
 -- What an accepted layout keeps. Assumes nothing.
-use Prim.Native.Nat.{◌%◌}
-use mathlib.Core.Path.{◌≡◌, refl, sym, ap}
-use mathlib.Core.Bool.{true, true≢false}
-use borrow.Author.Tests.{eqb-true}
+use Rattle.std.proofs.Common.{◌%◌, ◌≡◌, Option, Some, None, is_none, refl, sym, true, eqb-true}
+use Rattle.std.proofs.lemmas.Option.{none-some}
 use Rattle.base.proofs.Tests.{each, none_fails}
 use Rattle.layout.specs.declared.sections.Layout.{Layout}
 use Rattle.layout.specs.declared.rules.Rule.{Rule}
-use Rattle.layout.specs.declared.rules.Fault.{Fault}
-use Rattle.layout.specs.declared.rules.Fault.TheVariants.{Unbroken, Broken}
 use Rattle.layout.specs.Sections.{outside}
-use Rattle.layout.specs.Rules.{even_address, apart, all_even, all_filled, rules, layout_fault, is_unbroken, accepted}
+use Rattle.layout.specs.Rules.{even_address, apart, all_even, all_filled, rules, layout_fault, accepted}
 use Rattle.layout.proofs.SpanLaws.{Proper, proper}
 
--- a fault that is none
-no_fault : (f : Fault) → is_unbroken f ≡ true → f ≡ Unbroken
-no_fault Unbroken e = refl
-no_fault (Broken r) e = absurd (true≢false (sym e))
-
--- a broken rule is a fault
-a_fault : (r : Rule) → Broken r ≡ Unbroken → ⊥
-a_fault r e = true≢false (sym (ap is_unbroken e))
+-- no rule is broken
+no_rule : (r : Option Rule) → is_none r ≡ true → r ≡ None
+no_rule None e = refl
+no_rule (Some r) e = cc
 
 -- the rules, one by one
 pub record Accepted (L : Layout) : Type 0 where
@@ -32,7 +24,7 @@ pub record Accepted (L : Layout) : Type 0 where
 pub accepted_rules : (L : Layout) → accepted L ≡ true → Accepted L
 unfolding accepted layout_fault all_even all_filled even_address
 accepted_rules L e =
-    let r = none_fails Unbroken Broken a_fault (rules L) (no_fault _ e) in
+    let r = none_fails None Some (λ rule h. none-some rule (sym h)) (rules L) (no_rule _ e) in
     let drop_bit0 : all_even L ≡ true = search r in
     let filled : all_filled L ≡ true = search r in
     record {

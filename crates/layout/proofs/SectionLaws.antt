@@ -1,7 +1,5 @@
 -- The section that an address lies in, by its span and by its tests. Assumes nothing.
-use Prim.Native.Nat.{ℕ}
-use mathlib.Core.Path.{◌≡◌, refl, ap}
-use mathlib.Core.Bool.{true, false}
+use Rattle.std.proofs.Common.{ℕ, ◌≡◌, refl, ap, true, false}
 use Rattle.base.proofs.Tests.{when_true, when_false}
 use Rattle.layout.specs.declared.sections.Layout.{Layout}
 use Rattle.layout.specs.declared.sections.Section.{Section}

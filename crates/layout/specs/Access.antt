@@ -1,7 +1,8 @@
 -- The access table, and the answer to a caller's question about it.
-use Rattle.std.specs.Prelude.{ℕ, Bool, true, false, eqb}
+use Rattle.std.specs.Prelude.{ℕ, Bool, true, false, Result, Ok, Err, eqb}
 use Rattle.base.specs.Test.{when◌then◌else◌}
 use Rattle.base.specs.Refusal.{refusal_number}
+use Rattle.base.specs.declared.refusal.Refusal.{Refusal}
 use Rattle.base.specs.declared.refusal.Refusal.TheVariants.{Fence}
 use Rattle.layout.specs.declared.sections.Layout.{Layout}
 use Rattle.layout.specs.declared.sections.Section.{Section}
@@ -11,8 +12,6 @@ use Rattle.layout.specs.declared.access.Column.{Column}
 use Rattle.layout.specs.declared.access.Column.TheVariants.{Entry, OtherCode, Data, Outside}
 use Rattle.layout.specs.declared.access.Rights.{Rights}
 use Rattle.layout.specs.declared.access.Rights.TheVariants.{Nothing, ExecuteOnly, ReadWrite, AllThree}
-use Rattle.layout.specs.declared.access.Access.{Access}
-use Rattle.layout.specs.declared.access.Access.TheVariants.{Allowed, Barred, Refused}
 use Rattle.layout.specs.Sections.{section, inside, entry}
 use Rattle.layout.specs.Rules.{accepted}
 
@@ -58,12 +57,11 @@ column_of L a = section_column (section L a) (when eqb a (entry L) then Entry el
 unfoldable pub may : Layout → ℕ → Right → ℕ → Bool
 may L from right a = grant (cell (inside L from) (column_of L a)) right
 
--- what a caller is told
-unfoldable pub access_answer : Layout → ℕ → Right → ℕ → Access
-access_answer L from right a = when accepted L then when may L from right a then Allowed else Barred else Refused Fence
+-- what a caller is told: whether it may, or the refusal
+unfoldable pub access_answer : Layout → ℕ → Right → ℕ → Result Bool Refusal
+access_answer L from right a = when accepted L then Ok (may L from right a) else Err Fence
 
 -- the number of the answer's refusal, 0 where it is none
-abbrev pub access_refusal : Access → ℕ
-access_refusal Allowed = 0
-access_refusal Barred = 0
-access_refusal (Refused refusal) = refusal_number refusal
+abbrev pub access_refusal : Result Bool Refusal → ℕ
+access_refusal (Ok allowed) = 0
+access_refusal (Err refusal) = refusal_number refusal

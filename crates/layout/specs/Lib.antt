@@ -1,4 +1,5 @@
 pub mod Sections
+pub mod Fields
 pub mod Rules
 pub mod Access
 pub mod Laws

@@ -1,5 +1,5 @@
 -- The rules of a layout, and the first one that it breaks.
-use Rattle.std.specs.Prelude.{ℕ, Bool, true, false, List, [], ◌∷◌, leb, ltb}
+use Rattle.std.specs.Prelude.{ℕ, Bool, Option, Some, None, is_none, List, [], ◌∷◌, leb, ltb}
 use Rattle.base.specs.Test.{all, any}
 use Rattle.base.specs.FirstFailure.{Test, test, first_failure}
 use Rattle.base.specs.Limits.{memory_bytes}
@@ -8,8 +8,6 @@ use Rattle.layout.specs.declared.sections.Span.{Span}
 use Rattle.layout.specs.declared.sections.Layout.{Layout}
 use Rattle.layout.specs.declared.rules.Rule.{Rule}
 use Rattle.layout.specs.declared.rules.Rule.TheVariants.{Odd, Empty, Overlap, Service}
-use Rattle.layout.specs.declared.rules.Fault.{Fault}
-use Rattle.layout.specs.declared.rules.Fault.TheVariants.{Unbroken, Broken}
 use Rattle.layout.specs.Sections.{outside}
 
 -- an even 16-bit address; a number of a definition has no width of its own
@@ -43,14 +41,9 @@ rules L =
     ∷ test Service (outside L L.service) ∷ []
 
 -- the first rule that a layout breaks, if any
-unfoldable pub layout_fault : Layout → Fault
-layout_fault L = first_failure Unbroken Broken (rules L)
-
--- no rule is broken
-abbrev pub is_unbroken : Fault → Bool
-is_unbroken Unbroken = true
-is_unbroken (Broken rule) = false
+unfoldable pub layout_fault : Layout → Option Rule
+layout_fault L = first_failure None Some (rules L)
 
 -- a layout that breaks no rule is accepted
 unfoldable pub accepted : Layout → Bool
-accepted L = is_unbroken (layout_fault L)
+accepted L = is_none (layout_fault L)

@@ -1,9 +1,8 @@
 -- The starred case of 'Settled beforehand' on access.
-use Rattle.std.specs.Prelude.{List, [], ◌∷◌}
+use Rattle.std.specs.Prelude.{true, false, Ok, List, [], ◌∷◌}
 use Rattle.base.specs.Case.{Case, case}
 use Rattle.layout.specs.declared.sections.Layout.{Layout}
 use Rattle.layout.specs.declared.access.Right.TheVariants.{Execute}
-use Rattle.layout.specs.declared.access.Access.TheVariants.{Allowed, Barred}
 use Rattle.layout.specs.Access.{access_answer}
 
 -- the layout of document 01's sheet
@@ -18,6 +17,6 @@ sheet_layout =
 -- from 4404, 8000 may be executed, 8002 not
 abbrev pub access_cases : List {1} Case
 access_cases =
-    case (access_answer sheet_layout 0x4404 Execute 0x8000) Allowed
-    ∷ case (access_answer sheet_layout 0x4404 Execute 0x8002) Barred
+    case (access_answer sheet_layout 0x4404 Execute 0x8000) (Ok true)
+    ∷ case (access_answer sheet_layout 0x4404 Execute 0x8002) (Ok false)
     ∷ []

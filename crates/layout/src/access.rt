@@ -8,7 +8,7 @@ use crate::sections::{Layout, Section};
 use base::refusal::Refusal;
 
 // What an instruction may want to do to a byte.
-#[derive(Clone, Copy)]
+#[derive(Clone, Copy, Debug, PartialEq, Eq)]
 pub enum Right {
     Execute,
     Read,
@@ -16,7 +16,7 @@ pub enum Right {
 }
 
 // The columns of the table.
-#[derive(Clone, Copy)]
+#[derive(Clone, Copy, Debug, PartialEq, Eq)]
 pub enum Column {
     Entry,
     OtherCode,
@@ -25,20 +25,12 @@ pub enum Column {
 }
 
 // What a cell of the table allows: none, execute, read and write, all three.
-#[derive(Clone, Copy)]
+#[derive(Clone, Copy, Debug, PartialEq, Eq)]
 pub enum Rights {
     Nothing,
     ExecuteOnly,
     ReadWrite,
     AllThree,
-}
-
-// The answer to a caller's question.
-#[derive(Clone, Copy)]
-pub enum Access {
-    Allowed,
-    Barred,
-    Refused(Refusal),
 }
 
 // The cell of a row, inside or elsewhere, and a column.
@@ -47,16 +39,13 @@ fn cell(inside: bool, column: Column) -> Rights
 {
     if inside {
         match column {
-            Column::Entry => Rights::ExecuteOnly,
-            Column::OtherCode => Rights::ExecuteOnly,
+            Column::Entry | Column::OtherCode | Column::Outside => Rights::ExecuteOnly,
             Column::Data => Rights::ReadWrite,
-            Column::Outside => Rights::ExecuteOnly,
         }
     } else {
         match column {
             Column::Entry => Rights::ExecuteOnly,
-            Column::OtherCode => Rights::Nothing,
-            Column::Data => Rights::Nothing,
+            Column::OtherCode | Column::Data => Rights::Nothing,
             Column::Outside => Rights::AllThree,
         }
     }
@@ -69,16 +58,8 @@ impl Rights {
     {
         match self {
             Rights::Nothing => false,
-            Rights::ExecuteOnly => match right {
-                Right::Execute => true,
-                Right::Read => false,
-                Right::Write => false,
-            },
-            Rights::ReadWrite => match right {
-                Right::Execute => false,
-                Right::Read => true,
-                Right::Write => true,
-            },
+            Rights::ExecuteOnly => matches!(right, Right::Execute),
+            Rights::ReadWrite => matches!(right, Right::Read | Right::Write),
             Rights::AllThree => true,
         }
     }
@@ -86,41 +67,35 @@ impl Rights {
 
 impl Layout {
     // The column of an address.
+    #[tactic(auto, using(base::proofs::Tests::choices), unfolding(crate::specs::Access::column_of))]
     pub fn column_of(self, a: u16) -> Column
         ensures { result ≡ column_of self a }
     {
-        let code = self.code;
         match self.section(a) {
             Section::Outside => Column::Outside,
             Section::Data => Column::Data,
-            Section::Code => {
-                if a == code.start {
-                    Column::Entry
-                } else {
-                    Column::OtherCode
-                }
-            }
+            Section::Code if a == self.code.start => Column::Entry,
+            Section::Code => Column::OtherCode,
         }
     }
 
     // An instruction at `from` may do this to the byte at `a`.
+    #[tactic(auto, unfolding(crate::specs::Access::may))]
     pub fn may(self, from: u16, right: Right, a: u16) -> bool
         ensures { result ≡ may self from right a }
     {
         cell(self.inside(from), self.column_of(a)).grant(right)
     }
 
-    // A caller's question: may an instruction at `from` do this to the byte at `a`?
-    pub fn access(self, from: u16, right: Right, a: u16) -> Access
+    // A caller's question: may an instruction at `from` do this to the byte at `a`? Refused where a rule is broken.
+    #[tactic(auto, using(base::proofs::Tests::choices), unfolding(crate::specs::Access::access_answer))]
+    pub fn access(self, from: u16, right: Right, a: u16) -> Result<bool, Refusal>
         ensures answer { result ≡ access_answer self from right a }
         ensures refusal { access_refusal result ≡ (when accepted self then 0 else 2) }
     {
         if !self.accepted() {
-            return Access::Refused(Refusal::Fence);
+            return Err(Refusal::Fence);
         }
-        if self.may(from, right, a) {
-            return Access::Allowed;
-        }
-        Access::Barred
+        Ok(self.may(from, right, a))
     }
 }

@@ -6,7 +6,7 @@ use crate::sections::{Layout, Span};
 use base::word;
 
 // What each rule forbids: an odd address, a start not below its end, sections that overlap, a service address in one.
-#[derive(Clone, Copy)]
+#[derive(Clone, Copy, Debug, PartialEq, Eq)]
 pub enum Rule {
     Odd,
     Empty,
@@ -14,14 +14,8 @@ pub enum Rule {
     Service,
 }
 
-// The first rule that a layout breaks, if any.
-#[derive(Clone, Copy)]
-pub enum Fault {
-    Unbroken,
-    Broken(Rule),
-}
-
 // The address is even; as a u16 it has 16 bits.
+#[tactic(auto, unfolding(crate::specs::Rules::even_address, base::specs::Test::all))]
 fn even_address(a: u16) -> bool
     ensures { result ≡ even_address a }
 {
@@ -30,6 +24,7 @@ fn even_address(a: u16) -> bool
 
 impl Span {
     // The start and the end are even.
+    #[tactic(auto, unfolding(crate::specs::Rules::even_span, base::specs::Test::all))]
     fn is_even(self) -> bool
         ensures { result ≡ even_span self }
     {
@@ -44,6 +39,7 @@ impl Span {
     }
 
     // The spans have no address in common.
+    #[tactic(auto, unfolding(crate::specs::Rules::apart, base::specs::Test::any))]
     fn is_apart(self, other: Span) -> bool
         ensures { result ≡ apart self other }
     {
@@ -53,51 +49,46 @@ impl Span {
 
 impl Layout {
     // All five addresses are even.
+    #[tactic(auto, unfolding(crate::specs::Rules::all_even, base::specs::Test::all))]
     fn all_even(self) -> bool
         ensures { result ≡ all_even self }
     {
-        let code = self.code;
-        let data = self.data;
-        code.is_even() && (data.is_even() && even_address(self.service))
+        self.code.is_even() && self.data.is_even() && even_address(self.service)
     }
 
     // Each start is below its end.
+    #[tactic(auto, unfolding(crate::specs::Rules::all_filled, base::specs::Test::all))]
     fn all_filled(self) -> bool
         ensures { result ≡ all_filled self }
     {
-        let code = self.code;
-        let data = self.data;
-        code.is_filled() && data.is_filled()
+        self.code.is_filled() && self.data.is_filled()
     }
 
     // The first rule that is broken, if any.
-    pub fn fault(self) -> Fault
+    #[tactic(auto, using(base::proofs::Tests::choices), unfolding(crate::specs::Rules::layout_fault, base::specs::FirstFailure::first_failure))]
+    pub fn fault(self) -> Option<Rule>
         ensures { result ≡ layout_fault self }
     {
-        let code = self.code;
-        let data = self.data;
         if !self.all_even() {
-            return Fault::Broken(Rule::Odd);
+            return Some(Rule::Odd);
         }
         if !self.all_filled() {
-            return Fault::Broken(Rule::Empty);
+            return Some(Rule::Empty);
         }
-        if !code.is_apart(data) {
-            return Fault::Broken(Rule::Overlap);
+        if !self.code.is_apart(self.data) {
+            return Some(Rule::Overlap);
         }
         if !self.outside(self.service) {
-            return Fault::Broken(Rule::Service);
+            return Some(Rule::Service);
         }
-        Fault::Unbroken
+        None
     }
 
     // No rule is broken.
+    #[tactic(auto, unfolding(crate::specs::Rules::accepted))]
     pub fn accepted(self) -> bool
         ensures { result ≡ accepted self }
     {
-        match self.fault() {
-            Fault::Unbroken => true,
-            Fault::Broken(_) => false,
-        }
+        self.fault().is_none()
     }
 }

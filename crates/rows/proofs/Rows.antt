@@ -1,25 +1,20 @@
 -- No first word is in two rows of the table, and the code's order of work finds the row that the table has. Assumes nothing.
-use mathlib.Core.Path.{◌≡◌, refl, sym, ◌∙◌, ap, subst}
-use mathlib.Core.Bool.{true, true≢false}
-use mathlib.Core.List.{List, [], ◌∷◌}
-use Prim.Native.Nat.{ℕ, ◌+◌, ◌*◌, ◌/◌, ◌%◌, ◌<◌}
-use native.Mathlib.Omega.{arith}
-use lib.Dec.{eqb}
-use borrow.Author.Tests.{eqb-true, eq-eqb, not-true}
+use Rattle.std.proofs.Common.{◌≡◌, refl, sym, ◌∙◌, ap, subst, true, true≢false, List, [], ◌∷◌, ℕ, ◌+◌, ◌*◌, ◌/◌, ◌%◌, ◌<◌, arith, eqb, Option, None}
+use Rattle.std.proofs.lemmas.Option.{same_Some}
+use Rattle.std.proofs.lemmas.Bool.{eqb-true, eq-eqb, not-true}
 use Rattle.base.specs.Test.{when◌then◌else◌, all}
 use Rattle.base.proofs.Tests.{cases, each, every, choose}
 use Rattle.rows.specs.declared.row.Operation.TheVariants.{Add, Sub, Cmp, And}
 use Rattle.rows.specs.declared.row.Row.{Row}
 use Rattle.rows.specs.declared.row.Row.TheVariants.{Hlt as HLT, In as IN, Out as OUT, Jz as JZ, Reti as RETI, Nop as NOP, Jmp as JMP, Mov as MOV, Load as LOAD, Store as STORE, Immediate as IMMEDIATE, Compute as COMPUTE, Not as NOT}
 use Rattle.rows.specs.declared.read.Begun.{Begun}
-use Rattle.rows.specs.declared.read.Begun.TheVariants.{Nothing, Found}
 use Rattle.rows.specs.Table.{format_of, rows, movable, pointer, first_word, s_digit, d_digit}
-use Rattle.rows.specs.Words.{has_word, begun_in, begun}
+use Rattle.rows.specs.Words.{has_word, found, begun_in, begun}
 use Rattle.rows.specs.Laws.{OneRow}
 use Rattle.rows.specs.internal.Dispatch.{own_words, register_moves, moves, computes, dispatch}
 
-abbrev found : Row → ℕ → Begun
-found r w = Found r (s_digit r w) (d_digit r w)
+abbrev found_in_word : Row → ℕ → Option Begun
+found_in_word r w = found r (s_digit r w) (d_digit r w)
 
 -- what it says that a word is in a row
 pub has : (r : Row) (w : ℕ) → w ≡ first_word r (s_digit r w) (d_digit r w) → (format_of r).takes (s_digit r w) (d_digit r w) ≡ true
@@ -36,7 +31,7 @@ unfolding has_word
 taken r w e = (each _ e).1.0
 
 -- MOV between registers, where it is neither JMP nor NOP
-register_move : (s d : ℕ) → movable s d ≡ true → register_moves s d ≡ Found MOV s d
+register_move : (s d : ℕ) → movable s d ≡ true → register_moves s d ≡ found MOV s d
 unfolding register_moves when◌then◌else◌
 register_move s d t =
     let h = each _ t in
@@ -44,7 +39,7 @@ register_move s d t =
     cases (eqb d 3)
     (λ p. cases (eqb s 3)
     (λ q. absurd (true≢false (sym (every (eqb s 3 ∷ eqb d 3 ∷ []) (q, (p, tt))) ∙ n)))
-    (λ q. simp (not-true (eqb d 0) h.0, p, q) (ap (λ (x : ℕ). Found MOV s x) (sym (eqb-true d 3 p)))))
+    (λ q. simp (not-true (eqb d 0) h.0, p, q) (ap (λ (x : ℕ). found MOV s x) (sym (eqb-true d 3 p)))))
     (λ p. simp (not-true (eqb d 0) h.0, p))
 
 -- the digits of a word that is made of four
@@ -59,7 +54,7 @@ digits w a s c d hs hc hd e =
     rw e (record { first = omega arith; second = omega arith; third = omega arith; last = omega arith })
 
 -- a word that is in a row is sent to that row
-dispatched : (r : Row) (w : ℕ) → has_word r w ≡ true → dispatch w ≡ found r w
+dispatched : (r : Row) (w : ℕ) → has_word r w ≡ true → dispatch w ≡ found_in_word r w
 unfolding first_word dispatch own_words register_moves moves computes when◌then◌else◌
 dispatched HLT w e = rw (word_of HLT w e)
 dispatched IN w e =
@@ -121,17 +116,17 @@ dispatched NOT w e =
 pub one_row : (r q : Row) (w : ℕ) → has_word r w ≡ true → has_word q w ≡ true → r ≡ q
 one_row r q w e f = same (sym (dispatched r w e) ∙ dispatched q w f)
   where
-    same : {r q : Row} {s d t u : ℕ} → ◌≡◌ {A = Begun} (Found r s d) (Found q t u) → r ≡ q
-    same p = cc
+    same : {r q : Row} {s d t u : ℕ} → ◌≡◌ {A = Option Begun} (found r s d) (found q t u) → r ≡ q
+    same p = ap (λ (b : Begun). b.row) (same_Some _ _ p)
 
 pub one_row_only : OneRow
 unfolding OneRow
 one_row_only = one_row
 
 -- what a word may begin: nothing, or what a row that has it says
-pub data Begins (w : ℕ) : Begun → Type 0 where
-  nothing : Begins w Nothing
-  row : (r : Row) → has_word r w ≡ true → Begins w (Found r (s_digit r w) (d_digit r w))
+pub data Begins (w : ℕ) : Option Begun → Type 0 where
+  nothing : Begins w None
+  row : (r : Row) → has_word r w ≡ true → Begins w (found r (s_digit r w) (d_digit r w))
 
 begins_in : (w : ℕ) (rs : List Row) → Begins w (begun_in rs w)
 unfolding begun_in
@@ -166,16 +161,16 @@ listed (COMPUTE And) = search (here, there) depth 20
 listed NOT = search (here, there) depth 20
 
 -- a word's row is found, whatever the order of the rows
-found_in : (r : Row) (w : ℕ) (rs : List Row) → Among r rs → has_word r w ≡ true → begun_in rs w ≡ found r w
+found_in : (r : Row) (w : ℕ) (rs : List Row) → Among r rs → has_word r w ≡ true → begun_in rs w ≡ found_in_word r w
 unfolding begun_in when◌then◌else◌
 found_in r w [] x'' e = elim x'' [ ]
 found_in r w (q ∷ rs) here e = rw e
 found_in r w (q ∷ rs) (there l) e =
-    choose (λ (b : Begun). b ≡ found r w) (has_word q w)
-    (λ h. ap (λ (x : Row). found x w) (one_row q r w h e))
+    choose (λ (b : Option Begun). b ≡ found_in_word r w) (has_word q w)
+    (λ h. ap (λ (x : Row). found_in_word x w) (one_row q r w h e))
     (λ h. found_in r w rs l e)
 
-pub begun_row : (r : Row) (w : ℕ) → has_word r w ≡ true → begun w ≡ Found r (s_digit r w) (d_digit r w)
+pub begun_row : (r : Row) (w : ℕ) → has_word r w ≡ true → begun w ≡ found r (s_digit r w) (d_digit r w)
 unfolding begun
 begun_row r w e = found_in r w rows (listed r) e
 
@@ -201,7 +196,7 @@ register_begins w a c =
     (λ z. choose (Begins w) (eqb (w % 16) 3)
     (λ d. choose (Begins w) (eqb (w / 256 % 16) 3)
     (λ s. row NOP (has NOP w (omega (arith, eqb-true)) refl))
-    (λ s. subst (λ (x : ℕ). Begins w (Found MOV (w / 256 % 16) x)) (eqb-true (w % 16) 3 d)
+    (λ s. subst (λ (x : ℕ). Begins w (found MOV (w / 256 % 16) x)) (eqb-true (w % 16) 3 d)
     (row MOV (has MOV w (omega arith) (simp (z, s))))))
     (λ d. row MOV (has MOV w (omega arith) (cases (eqb (w / 256 % 16) 3) (λ s. simp (z, s, d)) (λ s. simp (z, s))))))
 
@@ -245,7 +240,7 @@ dispatch_begins w =
 pub dispatch_begun : (w : ℕ) → dispatch w ≡ begun w
 dispatch_begun w = go (dispatch w) (begun w) refl refl (dispatch_begins w) (begun_begins w)
   where
-    go : (x y : Begun) → dispatch w ≡ x → begun w ≡ y → Begins w x → Begins w y → x ≡ y
+    go : (x y : Option Begun) → dispatch w ≡ x → begun w ≡ y → Begins w x → Begins w y → x ≡ y
     go x y p q nothing nothing = refl
     go x y p q nothing (row r h) = sym p ∙ dispatched r w h
     go x y p q (row r h) nothing = sym (begun_row r w h) ∙ q

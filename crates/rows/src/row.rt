@@ -3,7 +3,7 @@ ghost use Rattle.std.specs.Prelude.{◌≡◌};
 ghost use Rattle.rows.specs.Table.{has_second, second_fits, format_of};
 
 // What ADD, SUB, CMP and AND do.
-#[derive(Clone, Copy)]
+#[derive(Clone, Copy, PartialEq, Eq, Debug)]
 pub enum Operation {
     Add,
     Sub,
@@ -12,7 +12,7 @@ pub enum Operation {
 }
 
 // A row of the table of instruction words.
-#[derive(Clone, Copy)]
+#[derive(Clone, Copy, PartialEq, Eq, Debug)]
 pub enum Row {
     Hlt,
     In,
@@ -30,7 +30,7 @@ pub enum Row {
 }
 
 // What the second word of a row is: there is none, it is this one, it is any.
-#[derive(Clone, Copy)]
+#[derive(Clone, Copy, PartialEq, Eq, Debug)]
 pub enum Second {
     Nothing,
     Exactly(u16),
@@ -38,14 +38,11 @@ pub enum Second {
 }
 
 impl Second {
+    // There is one.
     pub fn is_there(self) -> bool
         ensures { result ≡ has_second self }
     {
-        match self {
-            Second::Nothing => false,
-            Second::Exactly(_) => true,
-            Second::Anything => true,
-        }
+        self != Second::Nothing
     }
 
     // The word may be the second.
@@ -53,15 +50,15 @@ impl Second {
         ensures { result ≡ second_fits self word }
     {
         match self {
-            Second::Nothing => true,
             Second::Exactly(w) => word == w,
-            Second::Anything => true,
+            Second::Nothing | Second::Anything => true,
         }
     }
 }
 
-// An instruction as the table has it: its row, its register digits and its second word, each 0 where the row has none.
-#[derive(Clone, Copy)]
+// An instruction as the table has it: its row, its register digits and its second word, each 0 where the row has none: the row tells
+// which it has, so that an Option in each would say it again.
+#[derive(Clone, Copy, PartialEq, Eq, Debug)]
 pub struct Encoding {
     pub row: Row,
     pub source: u8,
@@ -75,19 +72,10 @@ impl Row {
         ensures { result ≡ (format_of self).second }
     {
         match self {
-            Row::Hlt => Second::Nothing,
-            Row::In => Second::Nothing,
-            Row::Out => Second::Nothing,
-            Row::Jz => Second::Nothing,
-            Row::Reti => Second::Nothing,
-            Row::Nop => Second::Nothing,
-            Row::Jmp => Second::Nothing,
-            Row::Mov => Second::Nothing,
-            Row::Load => Second::Nothing,
             Row::Store => Second::Exactly(0x0000),
             Row::Immediate => Second::Anything,
-            Row::Compute(_) => Second::Nothing,
             Row::Not => Second::Exactly(0xffff),
+            _ => Second::Nothing,
         }
     }
 }

@@ -7,23 +7,19 @@ use crate::read::is_pointer;
 use crate::row::{Encoding, Operation, Row, Second};
 use base::refusal::Refusal;
 
-// The answer of writing: exactly the instruction's words, or the refusal.
-#[derive(Clone, Copy)]
-pub enum Writing {
+// Exactly an instruction's words.
+#[derive(Clone, Copy, PartialEq, Eq, Debug)]
+pub enum Words {
     One(u16),
     Two(u16, u16),
-    Refused(Refusal),
 }
 
 // MOV s d: d not 0, not both 3.
+#[tactic(auto, unfolding(base::specs::Test::all))]
 fn is_movable(s: u8, d: u8) -> bool
     ensures { result ≡ movable s d }
 {
-    match d {
-        0 => false,
-        3 => s != 3,
-        _ => true,
-    }
+    d != 0 && !(s == 3 && d == 3)
 }
 
 // The row takes the registers.
@@ -31,19 +27,10 @@ fn takes_registers(row: Row, s: u8, d: u8) -> bool
     ensures { result ≡ (format_of row).takes s d }
 {
     match row {
-        Row::Hlt => true,
-        Row::In => true,
-        Row::Out => true,
-        Row::Jz => true,
-        Row::Reti => true,
-        Row::Nop => true,
-        Row::Jmp => true,
         Row::Mov => is_movable(s, d),
         Row::Load => is_pointer(s),
         Row::Store => is_pointer(d),
-        Row::Immediate => true,
-        Row::Compute(_) => true,
-        Row::Not => true,
+        _ => true,
     }
 }
 
@@ -52,19 +39,11 @@ fn takes_registers(row: Row, s: u8, d: u8) -> bool
 fn is_encodable(e: Encoding) -> bool
     ensures { result ≡ encodable e }
 {
-    let row = e.row;
-    let s = e.source;
-    let d = e.destination;
-    if 16 <= s {
-        return false;
-    }
-    if 16 <= d {
-        return false;
-    }
-    takes_registers(row, s, d)
+    e.source < 16 && e.destination < 16 && takes_registers(e.row, e.source, e.destination)
 }
 
 // The row's first word with the registers s and d.
+#[tactic(auto, unfolding(crate::specs::Table::first_word))]
 fn first_word(row: Row, s: u16, d: u16) -> u16
     requires { (s < 16) × (d < 16) }
     ensures { result ≡ first_word row s d }
@@ -99,29 +78,26 @@ fn operation_word(o: Operation) -> u16
 }
 
 // Exactly the words: the first, and the second where there is one.
-fn words_of(second: Second, first: u16, word: u16) -> Writing
+fn words_of(second: Second, first: u16, word: u16) -> Words
     ensures { result ≡ words_of second first word }
 {
     match second {
-        Second::Nothing => Writing::One(first),
-        Second::Exactly(u) => Writing::Two(first, u),
-        Second::Anything => Writing::Two(first, word),
+        Second::Nothing => Words::One(first),
+        Second::Exactly(u) => Words::Two(first, u),
+        Second::Anything => Words::Two(first, word),
     }
 }
 
 impl Encoding {
     // The words of an encoding, or refusal 9.
-    pub fn write(self) -> Writing
+    #[tactic(auto, unfolding(crate::specs::Words::written, crate::specs::Words::encodable, base::specs::Test::all))]
+    pub fn write(self) -> Result<Words, Refusal>
         ensures { result ≡ written self }
     {
-        let row = self.row;
-        let s = self.source;
-        let d = self.destination;
-        let word = self.word;
-        if is_encodable(self) {
-            let first = first_word(row, s as u16, d as u16);
-            return words_of(row.second(), first, word);
+        if !is_encodable(self) {
+            return Err(Refusal::Word);
         }
-        Writing::Refused(Refusal::Word)
+        let first = first_word(self.row, self.source as u16, self.destination as u16);
+        Ok(words_of(self.row.second(), first, self.word))
     }
 }

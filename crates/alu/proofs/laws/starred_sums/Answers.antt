@@ -1,4 +1,4 @@
-use mathlib.Core.Path.{refl}
+use Rattle.std.proofs.Common.{refl}
 use Rattle.alu.proofs.Computes.{computes}
 use Rattle.alu.proofs.laws.starred_sums.Goals as goal
 

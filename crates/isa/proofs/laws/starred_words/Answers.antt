@@ -1,4 +1,4 @@
-use mathlib.Core.Path.{refl}
+use Rattle.std.proofs.Common.{refl}
 use Rattle.isa.proofs.Computes.{computes}
 use Rattle.isa.proofs.laws.starred_words.Goals as goal
 

@@ -1,4 +1,4 @@
-use mathlib.Core.Path.{◌∙◌}
+use Rattle.std.proofs.Common.{◌∙◌}
 use Rattle.rows.proofs.Rows.{dispatch_begun}
 use Rattle.rows.proofs.read.Begun.begin.Goals as goal
 

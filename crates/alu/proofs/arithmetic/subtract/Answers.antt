@@ -1,4 +1,0 @@
-use Rattle.alu.proofs.arithmetic.subtract.Goals as goal
-
-pub returns : goal.returns
-returns c = simp (c.sign_turns.ensures, c.bit_15-3.ensures, c.bit_15-2.ensures, c.bit_15.ensures, c.not_zero.ensures, c.difference-r.ensures)
