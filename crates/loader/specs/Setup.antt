@@ -1,31 +1,24 @@
 -- The lines of a sheet, and the memory and the timetable that they set up.
-use Rattle.std.specs.Prelude.{ℕ, List, [], ◌∷◌, eqb, replicate}
-use Rattle.base.specs.Test.{when◌then◌else◌}
+use Rattle.std.specs.Prelude.{ℕ, List, [], ◌∷◌, Option, None, Some, eqb, replicate}
+use Rattle.std.specs.List.{slice_split}
 use Rattle.base.specs.Limits.{memory_bytes}
 use Rattle.definition.specs.Memory.{put_word}
+use Rattle.lines.specs.declared.line.Content.{Content}
 use Rattle.lines.specs.declared.line.Content.TheVariants.{Layout as Layouts, Word, Stamp, Budget}
-use Rattle.lines.specs.declared.line.Line.{Line}
-use Rattle.lines.specs.declared.line.Line.TheVariants.{Parsed, Unreadable}
 use Rattle.text.specs.Text.{newline}
 use Rattle.lines.specs.Line.{parse_line}
 
--- a byte put before the first piece
-abbrev pub prepended : ℕ → List (List ℕ) → List (List ℕ)
-prepended x [] = (x ∷ []) ∷ []
-prepended x (p ∷ ps) = (x ∷ p) ∷ ps
-
 -- the pieces of a text between its newlines: each is a line but the last, which follows the last newline
 unfoldable pub pieces : List ℕ → List (List ℕ)
-pieces [] = [] ∷ []
-pieces (x ∷ xs) = when eqb x newline then [] ∷ pieces xs else prepended x (pieces xs)
+pieces s = slice_split (λ x. eqb x newline) s
 
 -- later M lines win
-abbrev pub line_stored : Line → List ℕ → List ℕ
-line_stored Unreadable mem = mem
-line_stored (Parsed (Layouts L)) mem = mem
-line_stored (Parsed (Word a w)) mem = put_word mem a w
-line_stored (Parsed (Stamp s)) mem = mem
-line_stored (Parsed (Budget b)) mem = mem
+abbrev pub line_stored : Option Content → List ℕ → List ℕ
+line_stored None mem = mem
+line_stored (Some (Layouts L)) mem = mem
+line_stored (Some (Word a w)) mem = put_word mem a w
+line_stored (Some (Stamp s)) mem = mem
+line_stored (Some (Budget b)) mem = mem
 
 -- the M lines in order
 unfoldable pub memory_from : List ℕ → List (List ℕ) → List ℕ
@@ -37,12 +30,12 @@ unfoldable pub sheet_memory : List ℕ → List ℕ
 sheet_memory sheet = memory_from (replicate memory_bytes 0) (pieces sheet)
 
 -- the stamps of the A lines, in order
-abbrev pub stamp_of : Line → List ℕ → List ℕ
-stamp_of Unreadable ss = ss
-stamp_of (Parsed (Layouts L)) ss = ss
-stamp_of (Parsed (Word a w)) ss = ss
-stamp_of (Parsed (Stamp s)) ss = s ∷ ss
-stamp_of (Parsed (Budget b)) ss = ss
+abbrev pub stamp_of : Option Content → List ℕ → List ℕ
+stamp_of None ss = ss
+stamp_of (Some (Layouts L)) ss = ss
+stamp_of (Some (Word a w)) ss = ss
+stamp_of (Some (Stamp s)) ss = s ∷ ss
+stamp_of (Some (Budget b)) ss = ss
 
 -- of every line
 unfoldable pub stamps_from : List (List ℕ) → List ℕ

@@ -1,26 +1,21 @@
 // The memory and the timetable that a sheet sets up.
-ghost use Rattle.std.specs.Prelude.{◌≡◌, [], ◌≤◌, length, set};
+ghost use Rattle.std.specs.Prelude.{◌≡◌, [], length, set, option_to_list};
 ghost use Rattle.std.proofs.lemmas.List.Edits.{sets};
 ghost use Rattle.base.specs.Limits.{memory_bytes};
+ghost use Rattle.lines.specs.Line.{parse_line};
 ghost use Rattle.loader.specs.Setup.{pieces, line_stored, memory_from, sheet_memory, stamp_of, sheet_stamps};
 
 use base::limits::MEMORY_BYTES;
-use lines::line::{Content, Line, read_line};
+use base::place::put_at;
+use lines::line::{Content, read_line};
 use storage::memory::put_word;
-use text::text::{head, rest};
 
-// What a line puts into memory.
-fn store_line(mem: &mut [u8; MEMORY_BYTES], line: Line)
-    ensures { mem.new ≡ line_stored line mem.old }
+// What a line puts into memory: the word of an M line.
+fn store_line(mem: &mut [u8; MEMORY_BYTES], line: &[u8])
+    ensures { mem.new ≡ line_stored (parse_line line.now) mem.old }
 {
-    match line {
-        Line::Unreadable => {}
-        Line::Parsed(content) => match content {
-            Content::Layout(_) => {}
-            Content::Word(a, w) => put_word(mem, a, w),
-            Content::Stamp(_) => {}
-            Content::Budget(_) => {}
-        },
+    if let Some(Content::Word(address, word)) = read_line(line) {
+        put_word(mem, address, word);
     }
 }
 
@@ -28,12 +23,8 @@ fn store_line(mem: &mut [u8; MEMORY_BYTES], line: Line)
 fn store_lines(mem: &mut [u8; MEMORY_BYTES], sheet: &[u8])
     ensures { mem.new ≡ memory_from mem.old (pieces sheet.now) }
 {
-    let mut left = sheet;
-    while left.len() > 0 {
-        let line = read_line(head(left, b'\n'));
-        let after = rest(left, b'\n');
+    for line in sheet.split(|b| *b == b'\n') {
         store_line(mem, line);
-        left = after;
     }
 }
 
@@ -46,42 +37,13 @@ pub fn load_memory(mem: &mut [u8; MEMORY_BYTES], sheet: &[u8])
     store_lines(mem, sheet);
 }
 
-// Puts a stamp at an index, where there is room for it.
-fn put_stamp(stamps: &mut [u64], i: usize, stamp: u64)
-    ensures { stamps.new ≡ set stamps.old i stamp }
+// The stamp of an A line.
+fn stamp_of(line: &[u8]) -> Option<u64>
+    ensures { option_to_list result ≡ stamp_of (parse_line line.now) [] }
 {
-    if i < stamps.len() {
-        stamps[i] = stamp;
-    }
-}
-
-// How many stamps a line says: one, or none.
-fn stamp_count(line: Line) -> usize
-    ensures { (result ≡ length (stamp_of line [])) × (result ≤ 1) }
-{
-    match line {
-        Line::Unreadable => 0,
-        Line::Parsed(content) => match content {
-            Content::Layout(_) => 0,
-            Content::Word(_, _) => 0,
-            Content::Stamp(_) => 1,
-            Content::Budget(_) => 0,
-        },
-    }
-}
-
-// What a line puts into the timetable, behind the i stamps before it.
-fn append_line(stamps: &mut [u64], i: usize, line: Line)
-    ensures { stamps.new ≡ sets stamps.old i (stamp_of line []) }
-{
-    match line {
-        Line::Unreadable => {}
-        Line::Parsed(content) => match content {
-            Content::Layout(_) => {}
-            Content::Word(_, _) => {}
-            Content::Stamp(s) => put_stamp(stamps, i, s),
-            Content::Budget(_) => {}
-        },
+    match read_line(line) {
+        Some(Content::Stamp(stamp)) => Some(stamp),
+        _ => None,
     }
 }
 
@@ -89,13 +51,11 @@ fn append_line(stamps: &mut [u64], i: usize, line: Line)
 pub fn load_stamps(stamps: &mut [u64], sheet: &[u8])
     ensures { stamps.new ≡ sets stamps.old 0 (sheet_stamps sheet.now) }
 {
-    let mut left = sheet;
     let mut count = 0;
-    while left.len() > 0 {
-        let line = read_line(head(left, b'\n'));
-        let after = rest(left, b'\n');
-        append_line(stamps, count, line);
-        left = after;
-        count += stamp_count(line);
+    for line in sheet.split(|b| *b == b'\n') {
+        if let Some(stamp) = stamp_of(line) {
+            put_at(stamps, count, stamp);
+            count += 1;
+        }
     }
 }

@@ -1,10 +1,9 @@
 -- What holds of every sheet that is read: the statement of the law.
-use Rattle.std.specs.Prelude.{ℕ, ◌≤◌, ◌≡◌, true, List, length}
+use Rattle.std.specs.Prelude.{ℕ, ◌≤◌, ◌≡◌, true, List, Ok, length}
 use Rattle.base.specs.Limits.{most_budget}
 use Rattle.layout.specs.Rules.{accepted}
 use Rattle.definition.specs.Calls.{timetable}
 use Rattle.sheet.specs.declared.reader.Setup.{Setup}
-use Rattle.sheet.specs.declared.reader.Answer.TheVariants.{Read}
 use Rattle.sheet.specs.Sheet.{sheet_answer}
 use Rattle.loader.specs.Setup.{sheet_stamps}
 
@@ -17,4 +16,4 @@ pub record Runnable (setup : Setup) (stamps : List ℕ) : Type 0 where
 
 -- what a sheet sets up, the machine takes
 unfoldable pub ReadIsRunnable : Type 0
-ReadIsRunnable = (sheet : List ℕ) (setup : Setup) → sheet_answer sheet ≡ Read setup → Runnable setup (sheet_stamps sheet)
+ReadIsRunnable = (sheet : List ℕ) (setup : Setup) → sheet_answer sheet ≡ Ok setup → Runnable setup (sheet_stamps sheet)

@@ -1,17 +1,15 @@
 // The reader of a sheet: the setup that it tells, or the first bad line.
-ghost use Rattle.std.specs.Prelude.{◌≡◌, ◌≤◌, ◌+◌, length};
+ghost use Rattle.std.specs.Prelude.{◌≡◌, ◌≤◌, ◌+◌, None, Some, length};
 ghost use Rattle.base.specs.Limits.{most_sheet_bytes};
 ghost use Rattle.base.specs.Test.{when◌then◌else◌};
-ghost use Rattle.base.specs.declared.refusal.Refusal.TheVariants.{Timetable as TIMETABLE, Line as LINE};
-ghost use Rattle.sheet.specs.declared.reader.Answer.TheVariants.{Refused as REFUSED};
-ghost use Rattle.sheet.specs.declared.reader.Stage.TheVariants.{Goes as GOES, Stops as STOPS};
 ghost use Rattle.loader.specs.Setup.{pieces};
-ghost use Rattle.sheet.specs.Sheet.{fits_timetable, budget_answer, stage_of, unless_stopped, body_from, first_of, SheetPromise};
+ghost use Rattle.sheet.specs.Sheet.{fits_timetable, budget_answer, stage_of, body_from, SheetPromise};
 
 use base::limits::{LAST_CLOCK, MOST_BUDGET, MOST_SHEET_BYTES, MOST_STAMPS};
 use base::refusal::Refusal;
 use layout::sections::Layout;
-use lines::line::{Content, Line, read_line};
+use lines::line::{Content, read_line};
+use std::ops::ControlFlow;
 use text::text::{head, holds_byte, rest};
 
 // What a sheet sets up: the layout, how many stamps the timetable has, the budget.
@@ -22,142 +20,139 @@ pub struct Setup {
     pub budget: u64,
 }
 
-// The answer: the setup, or the refusal with its line.
+// Why a sheet is refused: the first refusal, and the line that it is for, 0 for the sheet as a whole.
 #[derive(Clone, Copy)]
-pub enum Answer {
-    Read(Setup),
-    Refused(Refusal, u64),
+pub struct SheetRefusal {
+    pub refusal: Refusal,
+    pub line: u64,
 }
 
-// What the first line says: a layout, or anything else.
-#[derive(Clone, Copy)]
-pub enum First {
-    IsLayout(Layout),
-    NoLayout,
+impl SheetRefusal {
+    // A refusal for a line.
+    fn new(refusal: Refusal, line: u64) -> SheetRefusal
+        ensures { result ≡ record { refusal = refusal; line = line } }
+    {
+        SheetRefusal { refusal, line }
+    }
 }
 
-// After a line: the last stamp and the number of stamps so far, or the answer.
+// The stamps so far: the last one, 0 before the first, and how many.
 #[derive(Clone, Copy)]
-pub enum Stage {
-    Goes(u64, u64),
-    Stops(Answer),
+pub struct StampsSoFar {
+    pub last: u64,
+    pub count: u64,
 }
 
-// A stamp of the timetable: not too many, rising, at most 2^62.
-fn fits_timetable(last: u64, count: u64, stamp: u64) -> bool
-    ensures { result ≡ fits_timetable last count stamp }
-{
-    count < MOST_STAMPS as u64 && (last < stamp && stamp <= LAST_CLOCK)
+impl StampsSoFar {
+    // With another stamp, where the timetable takes it: not too many, rising, at most 2^62.
+    #[tactic(auto, using(text::proofs::Choices::choices), unfolding(crate::specs::Sheet::fits_timetable, base::specs::Test::all))]
+    fn with(self, stamp: u64) -> Option<StampsSoFar>
+        ensures { result ≡ (when fits_timetable self stamp then Some (record { last = stamp; count = self.count + 1 }) else None) }
+    {
+        if self.count < MOST_STAMPS as u64 && self.last < stamp && stamp <= LAST_CLOCK {
+            return Some(StampsSoFar {
+                last: stamp,
+                count: self.count + 1,
+            });
+        }
+        None
+    }
 }
 
 // G at line n: nothing may follow it.
-fn budget_answer(layout: Layout, n: u64, count: u64, budget: u64, last: bool) -> Answer
+#[tactic(auto, using(text::proofs::Choices::choices), unfolding(crate::specs::Sheet::budget_answer))]
+fn budget_answer(
+    layout: Layout,
+    n: u64,
+    count: u64,
+    budget: u64,
+    last: bool,
+) -> Result<Setup, SheetRefusal>
     requires { n ≤ most_sheet_bytes + 2 }
     ensures { result ≡ budget_answer layout n count budget last }
 {
     if budget > MOST_BUDGET {
-        return Answer::Refused(Refusal::Distance, n);
+        return Err(SheetRefusal::new(Refusal::Distance, n));
     }
-    if last {
-        return Answer::Read(Setup {
-            layout: layout,
-            stamps: count,
-            budget: budget,
-        });
+    if !last {
+        return Err(SheetRefusal::new(Refusal::Line, n + 1));
     }
-    Answer::Refused(Refusal::Line, n + 1)
+    Ok(Setup {
+        layout,
+        stamps: count,
+        budget,
+    })
 }
 
-// A stamp at line n.
-fn stamp_stage(n: u64, last: u64, count: u64, stamp: u64) -> Stage
-    ensures { result ≡ (when fits_timetable last count stamp then GOES stamp (count + 1) else STOPS (REFUSED TIMETABLE n)) }
-{
-    if fits_timetable(last, count, stamp) {
-        return Stage::Goes(stamp, count + 1);
-    }
-    Stage::Stops(Answer::Refused(Refusal::Timetable, n))
-}
-
-// A line after the first, by what it says.
-fn read_stage(layout: Layout, n: u64, last: u64, count: u64, content: Content, ends: bool) -> Stage
+// A line after the first, by what it says: the reading goes on with the stamps so far, or ends with the answer.
+#[tactic(auto, using(text::proofs::Choices::choices), unfolding(crate::specs::Sheet::stage_of))]
+fn read_stage(
+    layout: Layout,
+    n: u64,
+    stamps: StampsSoFar,
+    content: Content,
+    ends: bool,
+) -> ControlFlow<Result<Setup, SheetRefusal>, StampsSoFar>
     requires { n ≤ most_sheet_bytes + 2 }
-    ensures { result ≡ stage_of layout n last count content ends }
+    ensures { result ≡ stage_of layout n stamps content ends }
 {
     match content {
-        Content::Layout(_) => Stage::Stops(Answer::Refused(Refusal::Line, n)),
-        Content::Word(_, _) => Stage::Goes(last, count),
-        Content::Stamp(s) => stamp_stage(n, last, count, s),
-        Content::Budget(b) => Stage::Stops(budget_answer(layout, n, count, b, ends)),
-    }
-}
-
-// The answer of a stage that stops.
-fn stopped(stage: Stage) -> Answer
-    ensures { result ≡ unless_stopped stage (λ _. λ _. REFUSED LINE 0) }
-{
-    match stage {
-        Stage::Goes(_, _) => Answer::Refused(Refusal::Line, 0),
-        Stage::Stops(answer) => answer,
+        Content::Layout(_) => ControlFlow::Break(Err(SheetRefusal::new(Refusal::Line, n))),
+        Content::Word(_, _) => ControlFlow::Continue(stamps),
+        Content::Stamp(stamp) => match stamps.with(stamp) {
+            Some(more) => ControlFlow::Continue(more),
+            None => ControlFlow::Break(Err(SheetRefusal::new(Refusal::Timetable, n))),
+        },
+        Content::Budget(budget) => {
+            ControlFlow::Break(budget_answer(layout, n, stamps.count, budget, ends))
+        }
     }
 }
 
 // The lines after L. Each line's answer is taken apart, and a bad one leaves with its number.
-fn read_body(layout: Layout, body: &[u8]) -> Answer
+// By `head` and `rest`, and no `for` over `split`: that gives also what no newline ends, which is no line.
+#[tactic(auto, using(text::proofs::Choices::choices, crate::proofs::SheetLaws::body_steps))]
+fn read_body(layout: Layout, body: &[u8]) -> Result<Setup, SheetRefusal>
     requires { length body.now ≤ most_sheet_bytes }
-    ensures { result ≡ body_from layout 2 0 0 (pieces body.now) }
+    ensures { result ≡ body_from layout 2 (record { last = 0; count = 0 }) (pieces body.now) }
 {
     let mut left = body;
     let mut n: u64 = 2;
-    let mut last: u64 = 0;
-    let mut count: u64 = 0;
+    let mut stamps = StampsSoFar { last: 0, count: 0 };
     while holds_byte(left, b'\n') {
         let after = rest(left, b'\n');
-        let Line::Parsed(content) = read_line(head(left, b'\n')) else {
-            return Answer::Refused(Refusal::Line, n);
+        let Some(content) = read_line(head(left, b'\n')) else {
+            return Err(SheetRefusal::new(Refusal::Line, n));
         };
-        let stage = read_stage(layout, n, last, count, content, after.len() == 0);
-        let Stage::Goes(l, c) = stage else {
-            return stopped(stage);
-        };
+        match read_stage(layout, n, stamps, content, after.is_empty()) {
+            ControlFlow::Break(answer) => return answer,
+            ControlFlow::Continue(more) => stamps = more,
+        }
         left = after;
         n += 1;
-        last = l;
-        count = c;
     }
-    Answer::Refused(Refusal::Line, n)
-}
-
-// What is said, as of the first line.
-fn first_of(content: Content) -> First
-    ensures { result ≡ first_of content }
-{
-    match content {
-        Content::Layout(layout) => First::IsLayout(layout),
-        Content::Word(_, _) => First::NoLayout,
-        Content::Stamp(_) => First::NoLayout,
-        Content::Budget(_) => First::NoLayout,
-    }
+    Err(SheetRefusal::new(Refusal::Line, n))
 }
 
 // A sheet's answer.
-pub fn read_sheet(sheet: &[u8]) -> Answer
+#[tactic(auto, using(text::proofs::Choices::choices, crate::proofs::SheetLaws::first_steps), unfolding(crate::specs::Sheet::sheet_answer))]
+pub fn read_sheet(sheet: &[u8]) -> Result<Setup, SheetRefusal>
     ensures { SheetPromise sheet.now result }
 {
     if sheet.len() > MOST_SHEET_BYTES {
-        return Answer::Refused(Refusal::Sheet, 0);
+        return Err(SheetRefusal::new(Refusal::Sheet, 0));
     }
     if !holds_byte(sheet, b'\n') {
-        return Answer::Refused(Refusal::Line, 1);
+        return Err(SheetRefusal::new(Refusal::Line, 1));
     }
-    let Line::Parsed(content) = read_line(head(sheet, b'\n')) else {
-        return Answer::Refused(Refusal::Line, 1);
+    let Some(content) = read_line(head(sheet, b'\n')) else {
+        return Err(SheetRefusal::new(Refusal::Line, 1));
     };
-    let First::IsLayout(layout) = first_of(content) else {
-        return Answer::Refused(Refusal::Line, 1);
+    let Content::Layout(layout) = content else {
+        return Err(SheetRefusal::new(Refusal::Line, 1));
     };
     if !layout.accepted() {
-        return Answer::Refused(Refusal::Fence, 1);
+        return Err(SheetRefusal::new(Refusal::Fence, 1));
     }
-    let body = rest(sheet, b'\n');
-    read_body(layout, body)
+    read_body(layout, rest(sheet, b'\n'))
 }

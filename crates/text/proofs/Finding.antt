@@ -1,39 +1,39 @@
--- One turn of the search for a byte, parts to the end, and what is left of a text. Assumes nothing.
-use Prim.Native.Nat.{ℕ, ◌+◌, ◌≤◌, ◌<◌, ◌-◌}
-use mathlib.Core.Path.{◌≡◌, ◌∙◌}
-use mathlib.Core.List.{List}
-use native.Mathlib.Omega.{arith}
-use native.Mathlib.Numerals.{add-one}
-use lib.ListN.{length, get_or, take, drop, length-drop}
-use lib.Seq.{drop-cons, drop-length, take-length}
-use borrow.Author.Tests.{eq-eqb, ne_eqb}
+-- The search for a byte is the library's; parts to the end. Assumes nothing.
+use Rattle.std.proofs.Common.{ℕ, ◌-◌, ◌≤◌, ◌≡◌, ◌∙◌, refl, List, [], ◌∷◌, Option, None, Some, eqb, ltb, cond, length, take, drop, length-drop, arith}
+use Rattle.std.proofs.lemmas.Bool.Decides.{nat_tests}
+use Rattle.std.proofs.Math.Seq.{take-length}
+use Rattle.std.specs.List.{position_or_len, list_any}
+use Rattle.std.specs.Option.{unwrap_or}
 use Rattle.base.specs.Test.{when◌then◌else◌}
-use Rattle.text.specs.Text.{find, rest}
+use Rattle.base.proofs.Tests.{cases}
+use Rattle.text.specs.Text.{find, holds}
 
--- the search has come to i
-abbrev pub Searched : List ℕ → ℕ → ℕ → Type 0
-Searched s b i = find s b ≡ i + find (drop i s) b
+-- the byte's index is the first place that passes the test, as the library has it
+pub find_is : (s : List ℕ) (b : ℕ) → find s b ≡ position_or_len (λ x. eqb x b) s
+unfolding find when◌then◌else◌
+find_is [] b = refl
+find_is (x ∷ xs) b = cases (eqb x b) (λ e. rw e) (λ e. rw (e, find_is xs b) (omega arith))
 
-module _ (s : List ℕ) (b i : ℕ) (g : Searched s b i) where
-  pub hit : i < length s → get_or s i 0 ≡ b → find s b ≡ i
-  unfolding find when◌then◌else◌
-  hit h e = g ∙ rw (drop-cons s i 0 h) (simp (eq-eqb _ _ e) (omega arith))
+find_within : (s : List ℕ) (b : ℕ) → find s b ≤ length s
+unfolding find when◌then◌else◌
+find_within [] b = omega arith
+find_within (x ∷ xs) b = cases (eqb x b) (λ e. rw e (omega arith)) (λ e. rw e (omega (arith, find_within xs b)))
 
-  pub miss : i < length s → (get_or s i 0 ≡ b → ⊥) → Searched s b (i + 1)
-  unfolding find when◌then◌else◌
-  miss h e = g ∙ rw (add-one, drop-cons s i 0 h) (simp (ne_eqb _ _ e) (omega arith))
+-- the place that `position` tells, or the length
+pub found : (s : List ℕ) (b : ℕ) (place : Option ℕ) (r : ℕ) → r ≡ unwrap_or place (length s)
+    → place ≡ cond (ltb (position_or_len (λ x. eqb x b) s) (length s)) (Some (position_or_len (λ x. eqb x b) s)) None
+    → (r ≡ find s b) × (r ≤ length s)
+found s b place r e f =
+    let w = find_within s b in
+    let k = find_is s b in
+    grind (arith, nat_tests)
 
-  pub end : i ≡ length s → find s b ≡ i
-  unfolding find
-  end h = g ∙ rw (h, drop-length) (omega arith)
+-- a byte stands in a text where some byte of it is that one
+pub holds_any : (s : List ℕ) (b : ℕ) → list_any (λ x. eqb x b) s ≡ holds s b
+unfolding find when◌then◌else◌
+holds_any [] b = refl
+holds_any (x ∷ xs) b = cases (eqb x b) (λ e. rw e (grind (arith, nat_tests))) (λ e. rw e (holds_any xs b ∙ grind (arith, nat_tests)))
 
 -- a part from a start to the end
 pub from_here : (s : List ℕ) (n : ℕ) → take (length s - n) (drop n s) ≡ drop n s
 from_here s n = rw (← length-drop n s) (take-length (drop n s))
-
--- the rest of a text is not longer, and shorter where the text is not empty
-pub rest_within : (s : List ℕ) (b : ℕ) → length (rest s b) ≤ length s
-rest_within s b = rw (length-drop (find s b + 1) s) (omega arith)
-
-pub rest_less : (s : List ℕ) (b : ℕ) → 0 < length s → length (rest s b) < length s
-rest_less s b h = rw (length-drop (find s b + 1) s) (omega arith)

@@ -1,111 +1,65 @@
 // The numbers that a field holds: four hexadecimal digits, or a decimal.
-ghost use Rattle.std.specs.Prelude.{◌≡◌};
+ghost use Rattle.std.specs.Prelude.{◌≡◌, ◌≤◌, IfSome};
 ghost use Rattle.text.specs.Number.{hex_digit, decimal_digit, hex_of, zero_led, decimal_of};
-ghost use Rattle.text.specs.internal.Digit.{within};
-
-// A digit, or no digit.
-#[derive(Clone, Copy)]
-pub enum Digit {
-    Parsed(u8),
-    Unreadable,
-}
-
-// A hexadecimal field, or none.
-#[derive(Clone, Copy)]
-pub enum Hex {
-    Parsed(u16),
-    Unreadable,
-}
-
-// A decimal field, or none.
-#[derive(Clone, Copy)]
-pub enum Decimal {
-    Parsed(u64),
-    Unreadable,
-}
 
 // A decimal digit.
-fn decimal_digit(b: u8) -> Digit
-    ensures { (result ≡ decimal_digit b) × within 9 result }
+#[tactic(auto, using(crate::proofs::Choices::choices), unfolding(crate::specs::Number::decimal_digit))]
+fn decimal_digit(b: u8) -> Option<u8>
+    ensures { (result ≡ decimal_digit b) × IfSome result (λ d. d ≤ 9) }
 {
-    if b < b'0' {
-        return Digit::Unreadable;
+    match b {
+        b'0'..=b'9' => Some(b - b'0'),
+        _ => None,
     }
-    if b <= b'9' {
-        return Digit::Parsed(b - b'0');
-    }
-    Digit::Unreadable
 }
 
-// The last hexadecimal digit.
-const LAST_HEX_DIGIT: u8 = b'F';
-
 // A hexadecimal digit, capitals.
-fn hex_digit(b: u8) -> Digit
-    ensures { (result ≡ hex_digit b) × within 15 result }
+#[tactic(auto, using(crate::proofs::Choices::choices), unfolding(crate::specs::Number::hex_digit, crate::specs::Number::decimal_digit))]
+fn hex_digit(b: u8) -> Option<u8>
+    ensures { (result ≡ hex_digit b) × IfSome result (λ d. d ≤ 15) }
 {
-    if b < b'A' {
-        return decimal_digit(b);
+    match b {
+        b'A'..=b'F' => Some(b - b'A' + 10),
+        _ => decimal_digit(b),
     }
-    if b <= LAST_HEX_DIGIT {
-        return Digit::Parsed(b - b'A' + 10);
-    }
-    Digit::Unreadable
 }
 
 // Four hexadecimal digits.
-pub fn read_hex(field: &[u8]) -> Hex
+#[tactic(auto, using(crate::proofs::Choices::choices), unfolding(crate::specs::Number::hex_of))]
+pub fn read_hex(field: &[u8]) -> Option<u16>
     ensures { result ≡ hex_of field.now }
 {
-    if field.len() != 4 {
-        return Hex::Unreadable;
-    }
-    let Digit::Parsed(a) = hex_digit(field[0]) else {
-        return Hex::Unreadable;
+    let [a, b, c, d] = field else {
+        return None;
     };
-    let Digit::Parsed(b) = hex_digit(field[1]) else {
-        return Hex::Unreadable;
-    };
-    let Digit::Parsed(c) = hex_digit(field[2]) else {
-        return Hex::Unreadable;
-    };
-    let Digit::Parsed(d) = hex_digit(field[3]) else {
-        return Hex::Unreadable;
-    };
-    Hex::Parsed(a as u16 * 4096 + b as u16 * 256 + c as u16 * 16 + d as u16)
+    let high = hex_digit(*a)? as u16 * 16 + hex_digit(*b)? as u16;
+    let low = hex_digit(*c)? as u16 * 16 + hex_digit(*d)? as u16;
+    Some(high * 256 + low)
 }
 
 // A zero that leads other digits.
+#[tactic(auto, using(crate::proofs::Choices::choices), unfolding(crate::specs::Number::zero_led))]
 fn is_zero_led(field: &[u8]) -> bool
     ensures { result ≡ zero_led field.now }
 {
-    if field.len() < 2 {
-        return false;
-    }
-    field[0] == b'0'
+    matches!(field, [b'0', _, ..])
 }
 
 // A decimal: at least one digit, no leading zero, and no twentieth digit.
-pub fn read_decimal(field: &[u8]) -> Decimal
+#[tactic(auto, using(crate::proofs::Choices::choices, crate::proofs::NumberLaws::decimal_steps), unfolding(crate::specs::Number::decimal_of))]
+pub fn read_decimal(field: &[u8]) -> Option<u64>
     ensures { result ≡ decimal_of field.now }
 {
-    if field.len() == 0 {
-        return Decimal::Unreadable;
-    }
-    if is_zero_led(field) {
-        return Decimal::Unreadable;
+    if field.is_empty() || is_zero_led(field) {
+        return None;
     }
     let mut n: u64 = 0;
-    let mut i = 0;
-    while i < field.len() {
-        let Digit::Parsed(d) = decimal_digit(field[i]) else {
-            return Decimal::Unreadable;
-        };
+    for b in field {
+        let d = decimal_digit(*b)?;
         if n >= 1_000_000_000_000_000_000 {
-            return Decimal::Unreadable;
+            return None;
         }
         n = n * 10 + d as u64;
-        i += 1;
     }
-    Decimal::Parsed(n)
+    Some(n)
 }

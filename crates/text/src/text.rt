@@ -6,21 +6,14 @@ ghost use Rattle.text.specs.Text.{find, holds, head, rest};
 fn find(s: &[u8], b: u8) -> usize
     ensures { (result ≡ find s.now b) × (result ≤ length s.now) }
 {
-    let mut i = 0;
-    while i < s.len() {
-        if s[i] == b {
-            return i;
-        }
-        i += 1;
-    }
-    i
+    s.iter().position(|x| *x == b).unwrap_or(s.len())
 }
 
 // The byte stands in the text.
 pub fn holds_byte(s: &[u8], b: u8) -> bool
     ensures { result ≡ holds s.now b }
 {
-    find(s, b) < s.len()
+    s.contains(&b)
 }
 
 // What stands before the first b: a part of what was lent.

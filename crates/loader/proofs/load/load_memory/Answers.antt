@@ -1,7 +1,6 @@
-use mathlib.Core.Path.{sym, ◌∙◌, ap}
-use lib.ListN.{length}
-use Rattle.loader.proofs.SetupLaws.{sheet_memory_length}
+use Rattle.std.proofs.Common.{length, sym, ap, ◌∙◌}
 use Rattle.loader.specs.Setup.{sheet_memory}
+use Rattle.loader.proofs.SetupLaws.{sheet_memory_length}
 use Rattle.loader.proofs.load.load_memory.Goals as goal
 
 pub returns : goal.returns

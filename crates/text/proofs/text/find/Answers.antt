@@ -1,20 +1,10 @@
-use mathlib.Core.Path.{sym}
-use native.Mathlib.Omega.{arith}
-use Rattle.text.proofs.Finding.{hit, miss, end}
+use Rattle.std.proofs.Common.{rules, tests, eqb}
+use Rattle.std.proofs.lemmas.Iterator.{YieldsList-from_slice}
+use Rattle.std.proofs.lemmas.Iterator.Search.{position_from_yields_List}
+use Rattle.text.proofs.Finding.{found}
 use Rattle.text.proofs.text.find.Goals as goal
 
-pub loop-i-init : goal.loop-i-init
-loop-i-init c = (omega arith, omega arith)
-
-pub returns-then-s-i : goal.returns-then-s-i
-returns-then-s-i c =
-    let l = c.loop-i in
-    (sym (hit _ _ _ l.invariant.1 c.loop-i-test.true c.if-s-i.true), l.invariant.0)
-
-pub loop-i-preserved : goal.loop-i-preserved
-loop-i-preserved c =
-    let l = c.loop-i in
-    (omega arith, miss _ _ _ l.invariant.1 c.loop-i-test.true c.if-s-i.false)
-
 pub returns : goal.returns
-returns c = let l = c.loop-i in (sym (end _ _ _ l.invariant.1 (omega arith)), l.invariant.0)
+returns c =
+    found c.args.s.now c.args.b _ _ c.unwrap_or.ensures
+    (position_from_yields_List (λ x. eqb x c.args.b) _ _ c.position.result c.position.ensures.ran (YieldsList-from_slice c.args.s.now cc) (λ x b q k. search (rules, tests)))

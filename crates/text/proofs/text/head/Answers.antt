@@ -1,9 +1,0 @@
-use mathlib.Core.Path.{sym}
-use lib.Seq.{length-take-le}
-use Rattle.text.proofs.text.head.Goals as goal
-
-pub slice_bounds-result-end : goal.slice_bounds-result-end
-slice_bounds-result-end c = sym (length-take-le _ _ c.find-n.ensures.1)
-
-pub returns : goal.returns
-returns c = simp c.find-n.ensures.0

@@ -1,2 +1,0 @@
--- What no promise to a caller rests on.
-pub mod Digit
