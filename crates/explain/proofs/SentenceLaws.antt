@@ -1,69 +1,55 @@
--- Texts put one behind another, and the labels of a sentence. Assumes nothing.
-use Prim.Native.Nat.{ℕ, ◌+◌, ◌-◌, ◌≤◌}
-use mathlib.Core.Path.{◌≡◌, sym, ◌∙◌, ap}
-use mathlib.Core.List.{List, [], ◌∷◌, ◌++◌}
-use native.Mathlib.Omega.{arith}
-use native.Mathlib.Nat.{zero-add}
-use lib.ListN.{length, take, drop, length-drop}
-use lib.Seq.{sets, length-take-le}
-use borrow.Author.Tests.{ne_eqb}
+-- The parts of a sentence, put one behind another, and its labels. Assumes nothing.
+use Rattle.std.proofs.Common.{ℕ, ◌≡◌, ◌≤◌, List, ◌++◌, length, eqb, ◌∙◌, refl, arith, length-append, codes}
+use Rattle.base.specs.Test.{when◌then◌else◌}
 use Rattle.base.specs.declared.refusal.Refusal.{Refusal}
-use Rattle.base.proofs.Tests.{when_false}
-use Rattle.text.proofs.Finding.{from_here}
-use Rattle.transcript.specs.Transcript.{decimal_bytes}
-use Rattle.transcript.proofs.TranscriptLaws.{Put, put_then}
-use Rattle.explain.specs.Sentence.{line_label, refusal_label, sentence, Explains}
+use Rattle.base.specs.declared.refusal.Refusal.TheVariants.{Map, Fence, Timetable, Frame, Distance, Clock, Line as BadLine, Sheet, Word}
+use Rattle.base.proofs.Tests.{cases}
+use Rattle.transcript.specs.Transcript.{decimal_bytes, decimal_from}
+use Rattle.transcript.specs.declared.line.Line.{Line}
+use Rattle.transcript.specs.Put.{Puts}
+use Rattle.transcript.proofs.TranscriptLaws.{puts_then, length_decimal_bytes}
+use Rattle.explain.specs.Sentence.{line_label, refusal_label, refusal_word, sentence, Explains}
 use Rattle.explain.specs.internal.Reason.{Wrote}
 
--- some bytes, as those that they are
-pub wrote_put : {entry exit : List ℕ} {at to : ℕ} (w : Wrote entry exit at to) → Put entry exit at to w.bytes
-wrote_put w = record { ends = w.ends; lies = w.lies }
-
 -- some bytes, and then some more behind them
-pub wrote_then : {entry exit further : List ℕ} {at to next : ℕ} → Wrote entry exit at to → Wrote exit further to next
-    → Wrote entry further at next
-wrote_then p q =
-    let r = put_then (wrote_put p) (wrote_put q) in
-    record { bytes = p.bytes ++ q.bytes; ends = r.ends; lies = r.lies }
+pub wrote_then : {before between after : Line} → Wrote before between → Wrote between after → Wrote before after
+wrote_then p q = record { bytes = p.bytes ++ q.bytes; puts = puts_then p.puts q.puts; end = q.end }
 
--- a text
-pub text_is_put : {entry exit : List ℕ} {at to : ℕ} (bytes : List ℕ) → (to ≡ at + length bytes) × (exit ≡ sets entry at bytes)
-    → Put entry exit at to bytes
-text_is_put bytes p = record { ends = p.0; lies = p.1 }
+-- how long the label of a line is at most
+pub length_line_label : (line : ℕ) → length (line_label line) ≤ 27
+unfolding line_label when◌then◌else◌
+length_line_label line =
+    cases (eqb line 0) (λ e. rw e (omega arith)) (λ e. rw (e, length-append (decimal_bytes line)) (omega (arith, length_decimal_bytes line)))
 
--- the digits of a decimal
-pub digits_put : {entry exit : List ℕ} {at to : ℕ} (text : List ℕ) (start n : ℕ)
-    → (drop start text ≡ decimal_bytes n) × ((start ≤ 20) × (length text ≡ 20))
-    → Put entry exit at to (take (20 - start) (drop start text)) → (to ≤ at + 20) × Put entry exit at to (decimal_bytes n)
-digits_put text start n d p =
-    let f : take (20 - start) (drop start text) ≡ drop start text = rw (← d.1.1) (from_here text start) in
-    let q = rw (f ∙ d.0) at p in
-    (omega (arith, q.ends, ap length d.0, length-drop start text, d.1.1), q)
+-- the labels of refusals, spelled
+abbrev pub label_text : Refusal → List ℕ
+label_text Map = codes " (1 map)\n"
+label_text Fence = codes " (2 fence)\n"
+label_text Timetable = codes " (3 timetable)\n"
+label_text Frame = codes " (4 frame)\n"
+label_text Distance = codes " (5 distance)\n"
+label_text Clock = codes " (6 clock)\n"
+label_text BadLine = codes " (7 line)\n"
+label_text Sheet = codes " (8 sheet)\n"
+label_text Word = codes " (9 word)\n"
 
--- the label of a line that is not 0
-pub line_labelled : {entry one two exit : List ℕ} {a b to : ℕ} (line : ℕ) → (line ≡ 0 → ⊥)
-    → Put entry one 0 a (0x6C ∷ 0x69 ∷ 0x6E ∷ 0x65 ∷ 0x20 ∷ []) → b ≤ a + 20 → Put one two a b (decimal_bytes line)
-    → Put two exit b to (0x3A ∷ 0x20 ∷ []) → (to ≤ 27) × Put entry exit 0 to (line_label line)
-unfolding line_label
-line_labelled line h p k q r =
-    let w = put_then p (put_then q r) in
-    (omega (arith, p.ends, r.ends), rw (when_false _ _ _ (ne_eqb line 0 h)) w)
-
--- the label of a refusal
-module _ (text : List ℕ) (size : ℕ) {label : List ℕ} (l : (size ≤ 16) × ((length text ≡ 16) × (take size text ≡ label))) where
-  pub front_length : length (take size text) ≡ size
-  front_length = length-take-le size text (omega (arith, l.0, l.1.0))
-
-  pub refusal_put : {entry exit : List ℕ} {at to : ℕ} → at ≤ 240 → Put entry exit at to (take size text)
-      → (to ≤ 256) × Put entry exit at to label
-  refusal_put h p = (omega (arith, p.ends, front_length, l.0), rw (← l.1.1) p)
+pub label_spelled : (r : Refusal) → refusal_label r ≡ label_text r
+unfolding refusal_label refusal_word decimal_bytes decimal_from when◌then◌else◌
+label_spelled Map = refl
+label_spelled Fence = refl
+label_spelled Timetable = refl
+label_spelled Frame = refl
+label_spelled Distance = refl
+label_spelled Clock = refl
+label_spelled BadLine = refl
+label_spelled Sheet = refl
+label_spelled Word = refl
 
 -- the three parts of a sentence
-pub explained : {entry one two exit : List ℕ} {a b to : ℕ} (r : Refusal) (line : ℕ)
-    → (a ≡ length (line_label line)) × (one ≡ sets entry 0 (line_label line)) → Wrote one two a b
-    → Put two exit b to (refusal_label r) → Explains r line entry exit to
+pub explained : {entry exit : List ℕ} {empty labelled reasoned last : Line} {written : ℕ} (r : Refusal) (line : ℕ)
+    → empty.out.now ≡ entry → empty.filled ≡ 0 → Puts empty labelled (line_label line) → Wrote labelled reasoned
+    → Puts reasoned last (refusal_label r) → written ≡ last.filled → exit ≡ last.out.now → Explains r line entry exit written
 unfolding sentence
-explained {entry} {one} {a = a} r line p q s =
-    let l : Put entry one 0 a (line_label line) = record { ends = p.0 ∙ sym (zero-add _); lies = p.1 } in
-    let w = put_then l (put_then (wrote_put q) s) in
-    record { reason = q.bytes; size = w.ends ∙ zero-add _; bytes = w.lies }
+explained r line e z p q s w x =
+    let t = puts_then p (puts_then q.puts s) in
+    record { reason = q.bytes; size = omega (arith, t.put.ends); bytes = x ∙ t.put.lies ∙ rw (e, z) }

@@ -1,35 +1,34 @@
 -- The sentence on a refused sheet: the line's number, the reason, the refusal's number and word.
-use Rattle.std.specs.Prelude.{ℕ, ◌≡◌, List, [], ◌∷◌, ◌++◌, eqb, length}
+use Rattle.std.specs.Prelude.{ℕ, ◌≡◌, List, [], ◌∷◌, ◌++◌, eqb, length, codes}
 use Rattle.std.proofs.lemmas.List.Edits.{sets}
 use Rattle.base.specs.Test.{when◌then◌else◌}
 use Rattle.base.specs.declared.refusal.Refusal.{Refusal}
 use Rattle.base.specs.declared.refusal.Refusal.TheVariants.{Map, Fence, Timetable, Frame, Distance, Clock, Line, Sheet, Word}
 use Rattle.base.specs.Refusal.{refusal_number}
-use Rattle.text.specs.Text.{newline}
 use Rattle.transcript.specs.Transcript.{decimal_bytes, parts}
 
 -- `line `, the number, a colon and a space; nothing for the sheet as a whole, line 0
 unfoldable pub line_label : ℕ → List ℕ
 line_label line =
-    when eqb line 0 then [] else parts ((0x6C ∷ 0x69 ∷ 0x6E ∷ 0x65 ∷ 0x20 ∷ []) ∷ decimal_bytes line ∷ (0x3A ∷ 0x20 ∷ []) ∷ [])
+    when eqb line 0 then [] else parts (codes "line " ∷ decimal_bytes line ∷ codes ": " ∷ [])
 
 -- document 01's word for a refusal
 unfoldable pub refusal_word : Refusal → List ℕ
-refusal_word Map = 0x6D ∷ 0x61 ∷ 0x70 ∷ []
-refusal_word Fence = 0x66 ∷ 0x65 ∷ 0x6E ∷ 0x63 ∷ 0x65 ∷ []
-refusal_word Timetable = 0x74 ∷ 0x69 ∷ 0x6D ∷ 0x65 ∷ 0x74 ∷ 0x61 ∷ 0x62 ∷ 0x6C ∷ 0x65 ∷ []
-refusal_word Frame = 0x66 ∷ 0x72 ∷ 0x61 ∷ 0x6D ∷ 0x65 ∷ []
-refusal_word Distance = 0x64 ∷ 0x69 ∷ 0x73 ∷ 0x74 ∷ 0x61 ∷ 0x6E ∷ 0x63 ∷ 0x65 ∷ []
-refusal_word Clock = 0x63 ∷ 0x6C ∷ 0x6F ∷ 0x63 ∷ 0x6B ∷ []
-refusal_word Line = 0x6C ∷ 0x69 ∷ 0x6E ∷ 0x65 ∷ []
-refusal_word Sheet = 0x73 ∷ 0x68 ∷ 0x65 ∷ 0x65 ∷ 0x74 ∷ []
-refusal_word Word = 0x77 ∷ 0x6F ∷ 0x72 ∷ 0x64 ∷ []
+refusal_word Map = codes "map"
+refusal_word Fence = codes "fence"
+refusal_word Timetable = codes "timetable"
+refusal_word Frame = codes "frame"
+refusal_word Distance = codes "distance"
+refusal_word Clock = codes "clock"
+refusal_word Line = codes "line"
+refusal_word Sheet = codes "sheet"
+refusal_word Word = codes "word"
 
 -- a space, the refusal's number and word in brackets, and the newline
 unfoldable pub refusal_label : Refusal → List ℕ
 refusal_label r =
     parts
-    ((0x20 ∷ 0x28 ∷ []) ∷ decimal_bytes (refusal_number r) ∷ (0x20 ∷ []) ∷ refusal_word r ∷ (0x29 ∷ newline ∷ []) ∷ [])
+    (codes " (" ∷ decimal_bytes (refusal_number r) ∷ codes " " ∷ refusal_word r ∷ codes ")\n" ∷ [])
 
 -- the sentence around a reason
 unfoldable pub sentence : Refusal → ℕ → List ℕ → List ℕ

@@ -1,5 +1,5 @@
 -- The transcript's lines, byte by byte.
-use Rattle.std.specs.Prelude.{ℕ, zero, suc, ◌+◌, ◌/◌, ◌%◌, List, [], ◌∷◌, ◌++◌, eqb, ltb}
+use Rattle.std.specs.Prelude.{ℕ, zero, suc, ◌+◌, ◌/◌, ◌%◌, List, [], ◌∷◌, ◌++◌, codes, eqb, ltb}
 use Rattle.base.specs.Test.{when◌then◌else◌}
 use Rattle.base.specs.declared.refusal.Refusal.{Refusal}
 use Rattle.base.specs.Refusal.{refusal_number}
@@ -28,9 +28,7 @@ hex_bytes w = hex_byte (w / 4096 % 16) ∷ hex_byte (w / 256 % 16) ∷ hex_byte 
 
 -- step kind clock pc sr
 abbrev pub header_line : List ℕ
-header_line =
-    0x73 ∷ 0x74 ∷ 0x65 ∷ 0x70 ∷ tab ∷ 0x6B ∷ 0x69 ∷ 0x6E ∷ 0x64 ∷ tab ∷ 0x63 ∷ 0x6C ∷ 0x6F ∷ 0x63 ∷ 0x6B ∷ tab ∷ 0x70 ∷ 0x63 ∷ tab
-    ∷ 0x73 ∷ 0x72 ∷ newline ∷ []
+header_line = codes "step\tkind\tclock\tpc\tsr\n"
 
 -- parts one after another
 abbrev pub parts : List (List ℕ) → List ℕ

@@ -1,76 +1,29 @@
 // The transcript's lines, each written to the front of a lent buffer, as far as it goes.
-ghost use Rattle.std.specs.Prelude.{◌≡◌, [], ◌∷◌, ◌+◌, ◌≤◌, length, drop, set};
+#![tactic(auto, using(crate::proofs::TranscriptLaws::length_decimal_bytes, crate::proofs::TranscriptLaws::length_hex_bytes))]
+
+ghost use Rattle.std.specs.Prelude.{◌≡◌, [], ◌∷◌, ◌+◌, ◌<◌, ◌≤◌, ◌^◌, length, set};
 ghost use Rattle.std.proofs.lemmas.List.Edits.{sets};
 ghost use Rattle.text.specs.Text.{tab};
 ghost use Rattle.transcript.specs.Transcript.{decimal_bytes, hex_byte, hex_bytes, header_line, step_line, end_line, refusal_line};
+ghost use Rattle.transcript.specs.Put.{Puts};
 
 use answers::answer::{End, Outcome};
+use base::place::put_at;
 use base::refusal::Refusal;
 
-// The digits of a decimal: those from the start on.
-#[derive(Clone, Copy)]
-pub struct Digits {
-    pub text: [u8; 20],
-    pub start: usize,
-}
-
-// Puts a byte at an index, where there is room for it.
-pub fn set_byte(out: &mut [u8], at: usize, b: u8)
-    ensures { out.new ≡ set out.old at b }
+// The digits of a decimal, from the last one back: those at the end of the text that is lent.
+pub fn decimal_digits<'a>(n: u64, text: &'a mut [u8; 20]) -> &'a [u8]
+    ensures { result.now ≡ decimal_bytes n }
 {
-    if at < out.len() {
-        out[at] = b;
-    }
-}
-
-// Puts a byte at an index, where there is room for it, and answers the next index.
-fn put_byte(out: &mut [u8], at: usize, b: u8) -> usize
-    requires { at ≤ 1000 }
-    ensures { (result ≡ at + 1) × (out.new ≡ sets out.old at (b ∷ [])) }
-{
-    set_byte(out, at, b);
-    at + 1
-}
-
-// The digits of a decimal, from the last one back.
-pub fn decimal_digits(n: u64) -> Digits
-    ensures { (drop result.start result.text ≡ decimal_bytes n) × ((result.start ≤ 20) × (length result.text ≡ 20)) }
-{
-    let mut text = [0u8; 20];
-    let mut i = 20;
     let mut rest = n;
-    while i > 0 {
-        i -= 1;
-        text[i] = 48 + (rest % 10) as u8;
-        rest = rest / 10;
+    for i in (0..20).rev() {
+        text[i] = b'0' + (rest % 10) as u8;
+        rest /= 10;
         if rest == 0 {
-            return Digits {
-                text: text,
-                start: i,
-            };
+            return &text[i..];
         }
     }
-    Digits {
-        text: text,
-        start: i,
-    }
-}
-
-// Puts a decimal.
-fn put_decimal(out: &mut [u8], at: usize, n: u64) -> usize
-    requires { at ≤ 900 }
-    ensures { (result ≡ at + length (decimal_bytes n)) × ((result ≤ at + 20) × (out.new ≡ sets out.old at (decimal_bytes n))) }
-{
-    let d = decimal_digits(n);
-    let text = d.text;
-    let mut i = d.start;
-    let mut to = at;
-    while i < 20 {
-        let next = put_byte(out, to, text[i]);
-        to = next;
-        i += 1;
-    }
-    to
+    text
 }
 
 // A hexadecimal digit, capitals.
@@ -78,76 +31,111 @@ fn hex_byte(d: u8) -> u8
     requires { d ≤ 15 }
     ensures { result ≡ hex_byte d }
 {
-    if d < 10 {
-        return 0x30 + d;
-    }
-    0x37 + d
+    if d < 10 { b'0' + d } else { b'A' + (d - 10) }
 }
 
-// Puts a tab and a word's four hexadecimal digits.
-fn put_hex_field(out: &mut [u8], at: usize, w: u16) -> usize
-    requires { at ≤ 900 }
-    ensures { (result ≡ at + 5) × (out.new ≡ sets out.old at (tab ∷ hex_bytes w)) }
-{
-    let a = put_byte(out, at, b'\t');
-    let b = put_byte(out, a, hex_byte((w / 4096 % 16) as u8));
-    let c = put_byte(out, b, hex_byte((w / 256 % 16) as u8));
-    let d = put_byte(out, c, hex_byte((w / 16 % 16) as u8));
-    put_byte(out, d, hex_byte((w % 16) as u8))
+// A line on its way to the front of a lent buffer, and how long it is so far, also past the buffer's end.
+#[derive(Drop)]
+pub struct Line<'a> {
+    out: &'a mut [u8],
+    filled: usize,
+}
+
+impl<'a> Line<'a> {
+    // An empty line.
+    pub fn new(out: &'a mut [u8]) -> Line<'a>
+        ensures same_buffer { result.out.ghost_name ≡ out.entry.ghost_name }
+        ensures buffer { result.out.now ≡ out.old }
+        ensures empty { result.filled ≡ 0 }
+    {
+        Line { out, filled: 0 }
+    }
+
+    // Its length so far.
+    pub fn len(&self) -> usize
+        ensures { result ≡ self.now.filled }
+    {
+        self.filled
+    }
+
+    // Puts bytes, to a line that stays shorter than 2 ^ 64 bytes.
+    pub fn put(&mut self, bytes: &[u8])
+        ensures { self.old.filled + length bytes.now < 2 ^ 64 → Puts self.old self.new bytes.now }
+    {
+        for b in bytes {
+            put_at(self.out, self.filled, *b);
+            self.filled = self.filled.wrapping_add(1);
+        }
+    }
+
+    // Puts a decimal, to a line that stays shorter than 2 ^ 64 bytes.
+    pub fn put_decimal(&mut self, n: u64)
+        ensures { self.old.filled + 20 < 2 ^ 64 → Puts self.old self.new (decimal_bytes n) }
+    {
+        let mut text = [0; 20];
+        self.put(decimal_digits(n, &mut text));
+    }
+
+    // Puts a tab and a word's four hexadecimal digits.
+    fn put_hex_field(&mut self, w: u16)
+        requires { self.old.filled + 5 < 2 ^ 64 }
+        ensures { Puts self.old self.new (tab ∷ hex_bytes w) }
+    {
+        self.put(&[
+            b'\t',
+            hex_byte((w / 4096 % 16) as u8),
+            hex_byte((w / 256 % 16) as u8),
+            hex_byte((w / 16 % 16) as u8),
+            hex_byte((w % 16) as u8),
+        ]);
+    }
 }
 
 // A step: its number, its kind, and clock, pc and sr after it.
 pub fn step_line(out: &mut [u8], n: u64, kind: Outcome, clock: u64, pc: u16, sr: u16) -> usize
     ensures { (result ≡ length (step_line n kind clock pc sr)) × ((result ≤ 64) × (out.new ≡ sets out.old 0 (step_line n kind clock pc sr))) }
 {
-    let a = put_decimal(out, 0, n);
-    let b = put_byte(out, a, b'\t');
-    let c = put_byte(out, b, kind.letter());
-    let d = put_byte(out, c, b'\t');
-    let e = put_decimal(out, d, clock);
-    let f = put_hex_field(out, e, pc);
-    let g = put_hex_field(out, f, sr);
-    put_byte(out, g, b'\n')
+    let mut line = Line::new(out);
+    line.put_decimal(n);
+    line.put(&[b'\t', kind.letter(), b'\t']);
+    line.put_decimal(clock);
+    line.put_hex_field(pc);
+    line.put_hex_field(sr);
+    line.put(b"\n");
+    line.len()
 }
 
 // The last line: the run's end, steps, clock.
 pub fn end_line(out: &mut [u8], end: End, steps: u64, clock: u64) -> usize
     ensures { (result ≡ length (end_line end steps clock)) × ((result ≤ 64) × (out.new ≡ sets out.old 0 (end_line end steps clock))) }
 {
-    let a = put_byte(out, 0, end.letter());
-    let b = put_byte(out, a, b'\t');
-    let c = put_decimal(out, b, steps);
-    let d = put_byte(out, c, b'\t');
-    let e = put_decimal(out, d, clock);
-    put_byte(out, e, b'\n')
+    let mut line = Line::new(out);
+    line.put(&[end.letter(), b'\t']);
+    line.put_decimal(steps);
+    line.put(b"\t");
+    line.put_decimal(clock);
+    line.put(b"\n");
+    line.len()
 }
 
 // A refusal: E, number, line.
 pub fn refusal_line(out: &mut [u8], refusal: Refusal, line: u64) -> usize
     ensures { (result ≡ length (refusal_line refusal line)) × ((result ≤ 64) × (out.new ≡ sets out.old 0 (refusal_line refusal line))) }
 {
-    let a = put_byte(out, 0, b'E');
-    let b = put_byte(out, a, b'\t');
-    let c = put_decimal(out, b, refusal.number() as u64);
-    let d = put_byte(out, c, b'\t');
-    let e = put_decimal(out, d, line);
-    put_byte(out, e, b'\n')
+    let mut text = Line::new(out);
+    text.put(b"E\t");
+    text.put_decimal(u64::from(u8::from(refusal)));
+    text.put(b"\t");
+    text.put_decimal(line);
+    text.put(b"\n");
+    text.len()
 }
 
-// The header: step kind clock pc sr.
-const HEADER: [u8; 22] = [
-    0x73, 0x74, 0x65, 0x70, 9, 0x6b, 0x69, 0x6e, 0x64, 9, 0x63, 0x6c, 0x6f, 0x63, 0x6b, 9, 0x70,
-    0x63, 9, 0x73, 0x72, 10,
-];
-
-// The header line.
+// The header line: step kind clock pc sr.
 pub fn header_line(out: &mut [u8]) -> usize
     ensures { (result ≡ 22) × (out.new ≡ sets out.old 0 header_line) }
 {
-    let mut i = 0;
-    while i < 22 {
-        let next = put_byte(out, i, HEADER[i]);
-        i = next;
-    }
-    i
+    let mut line = Line::new(out);
+    line.put(b"step\tkind\tclock\tpc\tsr\n");
+    line.len()
 }

@@ -1,9 +1,13 @@
-use Rattle.explain.proofs.SentenceLaws.{text_is_put, explained}
+use Rattle.std.proofs.Common.{rules, arith}
+use Rattle.explain.proofs.SentenceLaws.{length_line_label, explained}
 use Rattle.explain.proofs.sentence.explanation.Goals as goal
 
-pub returns : goal.returns
-returns c =
-    let p = c.put_line-a.ensures in
-    let q = c.put_reason-b.ensures in
-    let r = c.put_refusal.ensures in
-    record { bounded = r.0; sentence = explained _ _ p.1 q.1 (text_is_put _ r.1) }
+pub put_reason-requires : goal.put_reason-requires
+put_reason-requires c = omega (arith, length_line_label)
+
+pub returns-clause-sentence : goal.returns-clause-sentence
+returns-clause-sentence c =
+    let label = c.put.ensures (omega arith) in
+    explained _ _ c.new-text.ensures.buffer c.new-text.ensures.empty c.put_line.ensures c.put_reason.ensures
+    (rw c.label_of.ensures.label at label)
+    c.len.ensures (search rules)

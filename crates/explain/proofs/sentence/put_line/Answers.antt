@@ -1,19 +1,19 @@
-use mathlib.Core.Path.{refl, ◌∙◌}
-use native.Mathlib.Omega.{arith}
-use native.Mathlib.Nat.{zero-add}
+use Rattle.std.proofs.Common.{arith}
+use Rattle.std.proofs.lemmas.Bool.{ne_eqb}
 use Rattle.base.specs.Test.{when◌then◌else◌}
+use Rattle.base.proofs.Tests.{when_false}
+use Rattle.transcript.proofs.TranscriptLaws.{puts_none, puts_then, length_decimal_bytes}
 use Rattle.explain.specs.Sentence.{line_label}
-use Rattle.explain.proofs.SentenceLaws.{text_is_put, line_labelled}
 use Rattle.explain.proofs.sentence.put_line.Goals as goal
 
-pub returns-then-line-eq0 : goal.returns-then-line-eq0
+pub returns-then-line-eq-WHOLE_SHEET : goal.returns-then-line-eq-WHOLE_SHEET
 unfolding line_label when◌then◌else◌
-returns-then-line-eq0 c = rw c.if-line-eq0.true (omega arith, (refl, refl))
+returns-then-line-eq-WHOLE_SHEET c = rw c.if-line-eq-WHOLE_SHEET.true (puts_none _)
 
 pub returns : goal.returns
+unfolding line_label
 returns c =
-    let n = c.put_number-b.ensures in
-    let p = line_labelled c.args.line (omega arith)
-    (text_is_put _ c.put_all-a.ensures) n.0 (text_is_put _ n.1)
-    (text_is_put _ c.put_all.ensures) in
-    (p.0, (p.1.ends ∙ zero-add _, p.1.lies))
+    let word = c.put.ensures (omega arith) in
+    let number = c.put_decimal.ensures (omega arith) in
+    let colon = c.put-2.ensures (omega (arith, length_decimal_bytes)) in
+    rw (when_false _ _ _ (ne_eqb c.args.line 0 c.if-line-eq-WHOLE_SHEET.false)) (puts_then word (puts_then number colon))

@@ -1,12 +1,6 @@
-use mathlib.Core.Path.{◌≡◌}
-use Prim.Native.Nat.{◌≤◌}
-use lib.ListN.{length, drop}
+use Rattle.std.proofs.Common.{◌≡◌, length, drop}
 use Rattle.transcript.specs.Transcript.{decimal_from, decimal_bytes}
 use Rattle.transcript.proofs.line.decimal_digits.Given as goal
 
 abbrev pub invariant-loop-i : goal.invariant-loop-i
-invariant-loop-i l =
-    (l.i ≤ 20) × ((length l.text ≡ 20) × (decimal_bytes l.n ≡ decimal_from l.i l.rest (drop l.i l.text)))
-
-abbrev pub decreases-loop-i : goal.decreases-loop-i
-decreases-loop-i l = l.i
+invariant-loop-i l = (length l.text ≡ 20) × (decimal_bytes l.n ≡ decimal_from l.i l.rest (drop l.i l.text))

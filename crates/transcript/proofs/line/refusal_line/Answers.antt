@@ -1,20 +1,17 @@
-use mathlib.Core.Path.{refl, ◌∙◌}
-use native.Mathlib.Omega.{arith}
-use native.Mathlib.Nat.{zero-add}
-use Rattle.base.specs.Refusal.{refusal_number}
-use Rattle.text.specs.Text.{tab, newline}
+use Rattle.std.proofs.Common.{rules, arith}
 use Rattle.transcript.specs.Transcript.{refusal_line}
-use Rattle.transcript.proofs.TranscriptLaws.{byte_put, decimal_put, put_then}
+use Rattle.transcript.proofs.TranscriptLaws.{puts_then, line_put, length_decimal_bytes}
 use Rattle.transcript.proofs.line.refusal_line.Goals as goal
 
 pub returns : goal.returns
 unfolding refusal_line
 returns c =
-    let a = c.args in
-    let p = put_then {entry = a.out.now} {at = 0} (byte_put 0x45 _ refl c.put_byte-a.ensures)
-    (put_then (byte_put tab _ refl c.put_byte-b.ensures)
-    (put_then (decimal_put (refusal_number a.refusal) _ (rw c.number.ensures at c.put_decimal-c.ensures))
-    (put_then (byte_put tab _ refl c.put_byte-d.ensures)
-    (put_then (decimal_put a.line _ c.put_decimal-e.ensures)
-    (byte_put newline _ refl c.put_byte.ensures))))) in
-    (p.ends ∙ zero-add _, (omega (arith, c.put_byte.ensures.0, c.put_decimal-e.ensures.1.0, c.put_byte-d.ensures.0, c.put_decimal-c.ensures.1.0, c.put_byte-b.ensures.0, c.put_byte-a.ensures.0), p.lies))
+    let empty = c.new-text.ensures.empty in
+    let letter = c.put.ensures (omega arith) in
+    let number = c.put_decimal.ensures (omega arith) in
+    let tab = c.put-2.ensures (omega (arith, length_decimal_bytes)) in
+    let line = c.put_decimal-2.ensures (omega (arith, length_decimal_bytes)) in
+    let newline = c.put-3.ensures (omega (arith, length_decimal_bytes)) in
+    let p = puts_then letter
+    (puts_then (rw (c.from-2.ensures, c.from.ensures) at number) (puts_then tab (puts_then line newline))) in
+    line_put c.new-text.ensures.buffer empty p c.len.ensures (search rules) (omega (arith, c.len.ensures, length_decimal_bytes))

@@ -1,9 +1,0 @@
-use Rattle.explain.proofs.SentenceLaws.{wrote_then}
-use Rattle.explain.proofs.put.put_three.Goals as goal
-
-pub returns : goal.returns
-returns c =
-    let p = c.put_text-a.ensures in
-    let q = c.put_text-b.ensures in
-    let r = c.put_text.ensures in
-    (r.0, wrote_then p.1 (wrote_then q.1 r.1))
