@@ -1,22 +1,17 @@
 -- What callers get: the first refusal in order, with the machine and memory as they came; or the definition's result.
-use Rattle.std.specs.Prelude.{ℕ, Bool, true, false, List, [], ◌∷◌, ◌++◌, leb, ltb, eqb, length}
+use Rattle.answers.specs.Outcome.{stopped}
+use Rattle.answers.specs.declared.answer.Stopped.{Stopped}
+use Rattle.answers.specs.declared.answer.Outcome.{Outcome}
+use Rattle.std.specs.Prelude.{ℕ, Bool, true, false, List, [], ◌∷◌, ◌++◌, leb, ltb, eqb, length, Result, Ok, Err}
 use Rattle.base.specs.Test.{when◌then◌else◌, all}
 use Rattle.base.specs.FirstFailure.{Test, test}
 use Rattle.base.specs.Limits.{memory_bytes, last_clock, most_stamps, most_budget}
-use Rattle.base.specs.Verdict.{verdict}
+use Rattle.base.specs.Verdict.{verdict, unrefused}
 use Rattle.base.specs.declared.refusal.Refusal.{Refusal}
 use Rattle.base.specs.declared.refusal.Refusal.TheVariants.{Map, Fence, Timetable, Frame, Distance, Clock}
-use Rattle.base.specs.declared.verdict.Verdict.{Verdict}
-use Rattle.base.specs.declared.verdict.Verdict.TheVariants.{Taken as taken, Refused as refused}
 use Rattle.definition.specs.Setting.{Setting}
 use Rattle.layout.specs.Rules.{accepted}
 use Rattle.definition.specs.declared.state.State.{State}
-use Rattle.answers.specs.declared.answer.StartAnswer.{StartAnswer}
-use Rattle.answers.specs.declared.answer.StartAnswer.TheVariants.{Done as HasStarted, Refused as NotStarted}
-use Rattle.answers.specs.declared.answer.StepAnswer.{StepAnswer}
-use Rattle.answers.specs.declared.answer.StepAnswer.TheVariants.{Done as HasStepped, Refused as NotStepped}
-use Rattle.answers.specs.declared.answer.RunAnswer.{RunAnswer}
-use Rattle.answers.specs.declared.answer.RunAnswer.TheVariants.{Done as HasRun, Refused as NotRun}
 use Rattle.definition.specs.State.{World, start, framed}
 use Rattle.definition.specs.Run.{step_of, run}
 
@@ -78,31 +73,31 @@ abbrev pub called : {A : Type 0} → State → List ℕ → A → Called A
 called m mem a = record { state = m; memory = mem; answer = a }
 
 -- what start leaves, by the verdict
-abbrev pub start_answered : List ℕ → Verdict → Called StartAnswer
-start_answered mem taken = called (start mem) mem HasStarted
-start_answered mem (refused r) = called (start []) mem (NotStarted r)
+abbrev pub start_answered : List ℕ → Result (Unit {0}) Refusal → Called (Result (Unit {0}) Refusal)
+start_answered mem (Ok _) = called (start mem) mem unrefused
+start_answered mem (Err r) = called (start []) mem (Err r)
 
 -- start takes the memory only; where it is refused, the machine handed back is the start state of an empty memory
-unfoldable pub start_call : List ℕ → Called StartAnswer
+unfoldable pub start_call : List ℕ → Called (Result (Unit {0}) Refusal)
 start_call mem = start_answered mem (verdict (start_tests mem))
 
 module _ (S : Setting) where
   -- what a step call leaves, by the verdict
-  abbrev pub step_answered : World → Verdict → Called StepAnswer
-  step_answered w taken =
-      let s = step_of S w in called s.state s.memory (HasStepped s.outcome)
-  step_answered w (refused r) = called w.state w.memory (NotStepped r)
+  abbrev pub step_answered : World → Result (Unit {0}) Refusal → Called (Result Outcome Refusal)
+  step_answered w (Ok _) =
+      let s = step_of S w in called s.state s.memory (Ok s.outcome)
+  step_answered w (Err r) = called w.state w.memory (Err r)
 
   -- step
-  unfoldable pub step_call : World → Called StepAnswer
+  unfoldable pub step_call : World → Called (Result Outcome Refusal)
   step_call w = step_answered w (verdict (step_tests S w))
 
   -- what a run call leaves, by the verdict
-  abbrev pub run_answered : ℕ → World → Verdict → Called RunAnswer
-  run_answered budget w taken =
-      let s = run S budget w in called s.state s.memory (HasRun s.end s.steps)
-  run_answered budget w (refused r) = called w.state w.memory (NotRun r)
+  abbrev pub run_answered : ℕ → World → Result (Unit {0}) Refusal → Called (Result Stopped Refusal)
+  run_answered budget w (Ok _) =
+      let s = run S budget w in called s.state s.memory (Ok (stopped s.end s.steps))
+  run_answered budget w (Err r) = called w.state w.memory (Err r)
 
   -- run
-  unfoldable pub run_call : ℕ → World → Called RunAnswer
+  unfoldable pub run_call : ℕ → World → Called (Result Stopped Refusal)
   run_call budget w = run_answered budget w (verdict (run_tests S budget w))

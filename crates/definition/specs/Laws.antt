@@ -1,12 +1,11 @@
 -- What is claimed of the machine.
-use Rattle.std.specs.Prelude.{◌≡◌, Bool, true, false, ◌⊎◌, List, [], ◌∷◌, ℕ, ◌+◌, ◌-◌, ◌≤◌, ◌<◌, ltb, length}
+use Rattle.std.specs.Prelude.{◌≡◌, Bool, true, false, ◌⊎◌, List, [], ◌∷◌, ℕ, ◌+◌, ◌-◌, ◌≤◌, ◌<◌, ltb, length, None, Some, Ok, Err}
 use Rattle.base.specs.declared.refusal.Refusal.{Refusal}
 use Rattle.base.specs.declared.refusal.Refusal.TheVariants.{Distance, Clock}
-use Rattle.base.specs.declared.verdict.Verdict.TheVariants.{Taken as taken, Refused as refused}
 use Rattle.base.specs.Refusal.{refusal_number}
 use Rattle.base.specs.FirstFailure.{Test}
 use Rattle.base.specs.Limits.{last_clock}
-use Rattle.base.specs.Verdict.{verdict}
+use Rattle.base.specs.Verdict.{verdict, unrefused}
 use Rattle.base.specs.Test.{when◌then◌else◌, all}
 use Rattle.base.specs.Word.{drop_bit0, sum16}
 use Rattle.rows.specs.Words.{begun, two_words}
@@ -22,9 +21,7 @@ use Rattle.layout.specs.Rules.{accepted}
 use Rattle.layout.specs.Access.{may}
 use Rattle.alu.specs.Status.{gie}
 use Rattle.definition.specs.Setting.{Setting}
-use Rattle.definition.specs.declared.state.Stamp.TheVariants.{Never, At}
 use Rattle.definition.specs.declared.state.Time.{Time}
-use Rattle.definition.specs.declared.state.SavedContext.TheVariants.{Unheld, Held}
 use Rattle.definition.specs.declared.state.State.{State}
 use Rattle.answers.specs.declared.answer.Cause.{Cause}
 use Rattle.answers.specs.declared.answer.Cause.TheVariants.{Execute, Reentry, SecondSide, Inside}
@@ -34,8 +31,7 @@ use Rattle.answers.specs.declared.answer.End.TheVariants.{Halted as HaltedEnd, C
 use Rattle.definition.specs.Memory.{byte_at, word_at}
 use Rattle.definition.specs.Registers.{pc, sr}
 use Rattle.definition.specs.Time.{pass, emptied}
-use Rattle.definition.specs.State.{World, world, is_held, reset_address, start, framed}
-use Rattle.definition.specs.declared.judge.Judged.TheVariants.{Faulty, Acts}
+use Rattle.definition.specs.State.{World, world, is_held, reset_address, start, framed, held_visit}
 use Rattle.definition.specs.Judge.{reads, writes, privileged, is_reti, judge_act, judge}
 use Rattle.definition.specs.Act.{registers_after, memory_after}
 use Rattle.definition.specs.Interrupt.{Step, gives, padded, back}
@@ -90,8 +86,8 @@ pub record ReadyToRun (S : Setting) (w : World) : Type 0 where
 unfoldable pub OnlyDistanceOrClock : Type 0
 OnlyDistanceOrClock =
     (S : Setting) (w : World) (budget : ℕ) → ReadyToRun S w
-    → (verdict (run_tests S budget w) ≡ taken)
-    ⊎ ((verdict (run_tests S budget w) ≡ refused Distance) ⊎ (verdict (run_tests S budget w) ≡ refused Clock))
+    → (verdict (run_tests S budget w) ≡ unrefused)
+    ⊎ ((verdict (run_tests S budget w) ≡ Err Distance) ⊎ (verdict (run_tests S budget w) ≡ Err Clock))
 
 -- ---- the module
 
@@ -102,7 +98,7 @@ GieKeptInside =
 
 -- where GIE is set the slot is empty
 abbrev pub NothingDue : State → Type 0
-NothingDue m = gie (sr m.registers) ≡ true → m.time.slot ≡ Never
+NothingDue m = gie (sr m.registers) ≡ true → m.time.slot ≡ None
 
 -- so at the start, and after every step of a machine with nothing due
 unfoldable pub NothingDueAtStart : Type 0
@@ -118,7 +114,7 @@ NothingDueKept =
 unfoldable pub AgeAtMostFive : Type 0
 AgeAtMostFive =
     (S : Setting) (m : State) (mem : List ℕ) (previous age : ℕ) → framed S m ≡ true → NothingDue m
-    → (step S m mem).outcome ≡ Padded → (step S m mem).state.context ≡ Held previous age → age ≤ 5
+    → (step S m mem).outcome ≡ Padded → (step S m mem).state.context ≡ held_visit previous age → age ≤ 5
 
 -- a step inside writes only code and data, a step elsewhere only outside
 unfoldable pub WritesOwnSide : Type 0
@@ -136,7 +132,7 @@ AllIn L s (a ∷ addresses) = (section L (drop_bit0 a) ≡ s) × AllIn L s addre
 -- touches no memory
 unfoldable pub TouchesOwnSide : Type 0
 TouchesOwnSide =
-    (L : Layout) (held : Bool) (rs mem : List ℕ) (previous : ℕ) (i : Instruction) → judge L held rs mem previous ≡ Acts i
+    (L : Layout) (held : Bool) (rs mem : List ℕ) (previous : ℕ) (i : Instruction) → judge L held rs mem previous ≡ Ok i
     → all (held ∷ is_reti i ∷ []) ≡ false
     → (inside L (pc rs) ≡ true → AllIn L Data (reads rs i) × AllIn L Data (writes rs i))
     × (inside L (pc rs) ≡ false → AllIn L Outside (reads rs i) × AllIn L Outside (writes rs i))
@@ -147,33 +143,33 @@ TouchesOwnSide =
 unfoldable pub TwelveInside : Type 0
 TwelveInside =
     (S : Setting) (m : State) (mem : List ℕ) (i : Instruction) (s : ℕ)
-    → m.halted ≡ false → inside S.layout (pc m.registers) ≡ true → m.context ≡ Unheld
-    → judged S (world m mem) ≡ Acts i
-    → gie (sr m.registers) ≡ true → m.time.slot ≡ Never → (executed S m mem i).time.slot ≡ At s
+    → m.halted ≡ false → inside S.layout (pc m.registers) ≡ true → m.context ≡ None
+    → judged S (world m mem) ≡ Ok i
+    → gie (sr m.registers) ≡ true → m.time.slot ≡ None → (executed S m mem i).time.slot ≡ Some s
     → ((step S m mem).outcome ≡ Padded) × ((step S m mem).state.time.clock ≡ s + 12)
 
 -- and one that does so in return padding
 unfoldable pub TwelveInReturn : Type 0
 TwelveInReturn =
     (S : Setting) (m : State) (mem : List ℕ) (previous age s : ℕ)
-    → m.halted ≡ false → framed S m ≡ true → m.context ≡ Held previous age
-    → judged S (world m mem) ≡ Acts Reti
-    → (pass S (cycles_of Reti) m.time).slot ≡ Never
-    → (pass S age (pass S (cycles_of Reti) m.time)).slot ≡ At s
+    → m.halted ≡ false → framed S m ≡ true → m.context ≡ held_visit previous age
+    → judged S (world m mem) ≡ Ok Reti
+    → (pass S (cycles_of Reti) m.time).slot ≡ None
+    → (pass S age (pass S (cycles_of Reti) m.time)).slot ≡ Some s
     → ((step S m mem).outcome ≡ Padded) × ((step S m mem).state.time.clock ≡ s + 12)
 
 -- the time at which a padded service starts is decided by the stamp alone, not by the instruction that it broke into
 unfoldable pub PaddedByStamp : Type 0
 PaddedByStamp =
     (S : Setting) (m : State) (mem : List ℕ) (t : Time) (n s : ℕ)
-    → t.slot ≡ Never → n ≤ 6 → m.time ≡ pass S n t → m.time.slot ≡ At s
+    → t.slot ≡ None → n ≤ 6 → m.time ≡ pass S n t → m.time.slot ≡ Some s
     → (padded S s m mem).state.time ≡ pass S 6 (emptied (pass S (s + 6 - t.clock) t))
 
 -- the wait before a padded service and the wait after its return come to 6 cycles, whatever the age; 6 more start the service
 unfoldable pub PaddingSum : Type 0
 PaddingSum =
     (S : Setting) (s : ℕ) (m : State) (mem : List ℕ) (t : Time) (previous age : ℕ) (saved : List ℕ)
-    → (padded S s m mem).state.context ≡ Held previous age
+    → (padded S s m mem).state.context ≡ held_visit previous age
     → (padded S s m mem).state.time.clock + (back S t previous age saved).time.clock
     ≡ m.time.clock + 6 + 6 + t.clock
 
@@ -183,13 +179,13 @@ PaddingSum =
 unfoldable pub BarredUnread : Type 0
 BarredUnread =
     (L : Layout) (held : Bool) (rs mem : List ℕ) (previous : ℕ) → may L previous execute (pc rs) ≡ false
-    → judge L held rs mem previous ≡ Faulty Execute
+    → judge L held rs mem previous ≡ Err Execute
 
 -- the module may not be entered again while a visit is held
 unfoldable pub NoReentry : Type 0
 NoReentry =
     (L : Layout) (rs mem : List ℕ) (previous : ℕ) → may L previous execute (pc rs) ≡ true → inside L (pc rs) ≡ true
-    → judge L true rs mem previous ≡ Faulty Reentry
+    → judge L true rs mem previous ≡ Err Reentry
 
 -- a second word on another side is not read, nor is anything that it would tell
 unfoldable pub SecondElsewhereUnread : Type 0
@@ -197,28 +193,28 @@ SecondElsewhereUnread =
     (L : Layout) (held : Bool) (rs mem : List ℕ) (previous : ℕ)
     → may L previous execute (pc rs) ≡ true → all (inside L (pc rs) ∷ held ∷ []) ≡ false
     → two_words (begun (word_at mem (pc rs))) ≡ true → same_side L (pc rs) (sum16 (pc rs) 2) ≡ false
-    → judge L held rs mem previous ≡ Faulty SecondSide
+    → judge L held rs mem previous ≡ Err SecondSide
 
 -- HLT, IN and OUT inside reset by that name, whatever they would do
 unfoldable pub PrivilegedInside : Type 0
 PrivilegedInside =
     (L : Layout) (held : Bool) (rs : List ℕ) (i : Instruction) → inside L (pc rs) ≡ true → privileged i ≡ true
-    → judge_act L held rs i ≡ Faulty Inside
+    → judge_act L held rs i ≡ Err Inside
 
 -- RETI while a visit is held chains if the slot is filled, whatever GIE is
 unfoldable pub ChainsWhateverGie : Type 0
 ChainsWhateverGie =
     (S : Setting) (m : State) (mem : List ℕ) (previous age s : ℕ)
-    → m.halted ≡ false → m.context ≡ Held previous age
-    → judged S (world m mem) ≡ Acts Reti
-    → (pass S (cycles_of Reti) m.time).slot ≡ At s
+    → m.halted ≡ false → m.context ≡ held_visit previous age
+    → judged S (world m mem) ≡ Ok Reti
+    → (pass S (cycles_of Reti) m.time).slot ≡ Some s
     → (step S m mem).outcome ≡ Chained
 
 -- what a reset leaves: pc is the reset vector's word in the memory that the step leaves, the slot is empty, no visit is held
 pub record AfterReset (s : Step) : Type 0 where
   pub address : pc s.state.registers ≡ reset_address s.memory
-  pub slot : s.state.time.slot ≡ Never
-  pub context : s.state.context ≡ Unheld
+  pub slot : s.state.time.slot ≡ None
+  pub context : s.state.context ≡ None
 
 -- so of every step that resets
 unfoldable pub ResetAfterStore : Type 0
@@ -336,6 +332,6 @@ pub record Confined (S : Setting) (m : State) (mem : List ℕ) (i : Instruction)
 unfoldable pub InsideConfined : Type 0
 InsideConfined =
     (S : Setting) (m : State) (mem : List ℕ) (i : Instruction) → accepted S.layout ≡ true
-    → inside S.layout (pc m.registers) ≡ true → m.context ≡ Unheld
-    → judged S (world m mem) ≡ Acts i
+    → inside S.layout (pc m.registers) ≡ true → m.context ≡ None
+    → judged S (world m mem) ≡ Ok i
     → Confined S m mem i

@@ -1,11 +1,11 @@
 -- What start, step and run promise: each is one record, on all that a caller can hand in.
-use Rattle.std.specs.Prelude.{ℕ, ◌≡◌, List}
+use Rattle.answers.specs.declared.answer.Stopped.{Stopped}
+use Rattle.answers.specs.declared.answer.Outcome.{Outcome}
+use Rattle.base.specs.declared.refusal.Refusal.{Refusal}
+use Rattle.std.specs.Prelude.{ℕ, ◌≡◌, List, Result}
 use Rattle.base.specs.Verdict.{verdict, refused_by}
 use Rattle.definition.specs.Setting.{Setting}
 use Rattle.definition.specs.declared.state.State.{State}
-use Rattle.answers.specs.declared.answer.StartAnswer.{StartAnswer}
-use Rattle.answers.specs.declared.answer.StepAnswer.{StepAnswer}
-use Rattle.answers.specs.declared.answer.RunAnswer.{RunAnswer}
 use Rattle.definition.specs.State.{World}
 use Rattle.definition.specs.Run.{step_of, run}
 use Rattle.answers.specs.Outcome.{kind_letter, end_letter}
@@ -17,14 +17,14 @@ abbrev pub Untouched : ℕ → World → World → Type 0
 Untouched number before after = (number ≡ 0 → ⊥) → (after.state ≡ before.state) × (after.memory ≡ before.memory)
 
 -- what a start call promises of the state and the answer that it hands back; it writes no memory
-pub record StartPromise (mem : List ℕ) (m : State) (answer : StartAnswer) : Type 0 where
+pub record StartPromise (mem : List ℕ) (m : State) (answer : Result (Unit {0}) Refusal) : Type 0 where
   -- they are the definition's
   pub result : called m mem answer ≡ start_call mem
   -- the refusal's number is that of the first test that fails
   pub number : start_refusal answer ≡ refused_by (verdict (start_tests mem))
 
 -- what a step call promises of the world that it leaves and of its answer
-pub record StepPromise (S : Setting) (before after : World) (answer : StepAnswer) : Type 0 where
+pub record StepPromise (S : Setting) (before after : World) (answer : Result Outcome Refusal) : Type 0 where
   -- state, every byte of memory, and answer are the definition's
   pub result : called after.state after.memory answer ≡ step_call S before
   -- the refusal's number is that of the first test that fails
@@ -36,7 +36,7 @@ pub record StepPromise (S : Setting) (before after : World) (answer : StepAnswer
   pub refused : Untouched (step_refusal answer) before after
 
 -- what a run call promises of the world that it leaves and of its answer
-pub record RunPromise (S : Setting) (budget : ℕ) (before after : World) (answer : RunAnswer) : Type 0 where
+pub record RunPromise (S : Setting) (budget : ℕ) (before after : World) (answer : Result Stopped Refusal) : Type 0 where
   -- state, every byte of memory, and answer are the definition's
   pub result : called after.state after.memory answer ≡ run_call S budget before
   -- the refusal's number is that of the first test that fails

@@ -1,16 +1,13 @@
 -- The state, the start state, and the frame that every state the machine can be in keeps.
-use Rattle.std.specs.Prelude.{ℕ, Bool, true, false, List, [], ◌∷◌, leb, ltb, eqb}
+use Rattle.std.specs.Prelude.{ℕ, Bool, true, false, List, [], ◌∷◌, leb, ltb, eqb, Option, None, Some}
 use Rattle.base.specs.Test.{all}
 use Rattle.base.specs.Word.{drop_bit0, is_even}
 use Rattle.layout.specs.declared.sections.Layout.{Layout}
 use Rattle.layout.specs.Sections.{inside}
 use Rattle.alu.specs.Status.{gie}
 use Rattle.definition.specs.Setting.{Setting}
-use Rattle.definition.specs.declared.state.Stamp.{Stamp}
-use Rattle.definition.specs.declared.state.Stamp.TheVariants.{Never, At}
 use Rattle.definition.specs.declared.state.Time.{Time}
 use Rattle.definition.specs.declared.state.SavedContext.{SavedContext}
-use Rattle.definition.specs.declared.state.SavedContext.TheVariants.{Unheld, Held}
 use Rattle.definition.specs.declared.state.State.{State}
 use Rattle.definition.specs.Memory.{word_at}
 use Rattle.definition.specs.Registers.{register, pc, sp, sr, zeros, cleared}
@@ -25,10 +22,14 @@ pub record World : Type 0 where
 abbrev pub world : State → List ℕ → World
 world m mem = record { state = m; memory = mem }
 
+-- a held visit, of its previous address and its age
+abbrev pub held_visit : ℕ → ℕ → Option SavedContext
+held_visit previous age = Some (record { previous = previous; age = age })
+
 -- a visit is held
-abbrev pub is_held : SavedContext → Bool
-is_held Unheld = false
-is_held (Held previous age) = true
+abbrev pub is_held : Option SavedContext → Bool
+is_held None = false
+is_held (Some _) = true
 
 -- the address before which nothing was executed: the reset vector's
 abbrev pub vector : ℕ
@@ -39,13 +40,13 @@ unfoldable pub reset_address : List ℕ → ℕ
 reset_address mem = drop_bit0 (word_at mem vector)
 
 -- a machine whose previous address is FFFE: at the start, after a reset, and once a service starts
-abbrev pub from_vector : List ℕ → Time → SavedContext → List ℕ → State
+abbrev pub from_vector : List ℕ → Time → Option SavedContext → List ℕ → State
 from_vector registers time context saved =
     record { registers = registers; previous = vector; time = time; context = context; saved = saved; halted = false }
 
 -- at the start and after a reset none is held
 abbrev pub reset_state : List ℕ → Time → State
-reset_state registers time = from_vector registers time Unheld zeros
+reset_state registers time = from_vector registers time None zeros
 
 -- start: registers 0, pc from the reset vector, clock 0, no alarm
 unfoldable pub start : List ℕ → State
@@ -56,20 +57,20 @@ abbrev pub framed_registers : List ℕ → Bool
 framed_registers rs = all (is_even (pc rs) ∷ is_even (sp rs) ∷ eqb (register rs 3) 0 ∷ [])
 
 -- a slot stamp is not 0 and not above the clock
-abbrev pub framed_slot : ℕ → Stamp → Bool
-framed_slot clock Never = true
-framed_slot clock (At s) = all (ltb 0 s ∷ leb s clock ∷ [])
+abbrev pub framed_slot : ℕ → Option ℕ → Bool
+framed_slot clock None = true
+framed_slot clock (Some s) = all (ltb 0 s ∷ leb s clock ∷ [])
 
 -- an alarm is above the clock
-abbrev pub framed_alarm : ℕ → Stamp → Bool
-framed_alarm clock Never = true
-framed_alarm clock (At s) = ltb clock s
+abbrev pub framed_alarm : ℕ → Option ℕ → Bool
+framed_alarm clock None = true
+framed_alarm clock (Some s) = ltb clock s
 
 -- a held visit: age at most 6, its registers framed with GIE set, its previous address inside and even
-abbrev pub framed_context : Layout → List ℕ → SavedContext → Bool
-framed_context L saved Unheld = true
-framed_context L saved (Held previous age) =
-    all (leb age 6 ∷ framed_registers saved ∷ gie (sr saved) ∷ inside L previous ∷ is_even previous ∷ [])
+abbrev pub framed_context : Layout → List ℕ → Option SavedContext → Bool
+framed_context L saved None = true
+framed_context L saved (Some visit) =
+    all (leb visit.age 6 ∷ framed_registers saved ∷ gie (sr saved) ∷ inside L visit.previous ∷ is_even visit.previous ∷ [])
 
 -- the frame
 unfoldable pub framed : Setting → State → Bool

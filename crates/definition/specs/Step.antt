@@ -1,5 +1,6 @@
 -- One step: judged, then acting, then its cycles, then the interrupt.
-use Rattle.std.specs.Prelude.{ℕ, Bool, true, false, List}
+use Rattle.answers.specs.declared.answer.Cause.{Cause}
+use Rattle.std.specs.Prelude.{ℕ, Bool, true, false, List, Option, None, Result, Ok, Err, Some}
 use Rattle.base.specs.Test.{when◌then◌else◌}
 use Rattle.isa.specs.declared.instruction.Instruction.{Instruction}
 use Rattle.isa.specs.declared.instruction.Instruction.TheVariants.{Hlt, In, Out, Jz, Reti, Nop, Jmp, Mov, Store, Compute, Not}
@@ -8,14 +9,11 @@ use Rattle.layout.specs.Sections.{inside}
 use Rattle.definition.specs.Setting.{Setting}
 use Rattle.definition.specs.declared.state.Time.{Time}
 use Rattle.definition.specs.declared.state.SavedContext.{SavedContext}
-use Rattle.definition.specs.declared.state.SavedContext.TheVariants.{Unheld, Held}
 use Rattle.definition.specs.declared.state.State.{State}
 use Rattle.answers.specs.declared.answer.Outcome.TheVariants.{Ran, Halted}
 use Rattle.definition.specs.Registers.{register, pc, zeros}
 use Rattle.definition.specs.Time.{pass, set_alarm, device_word}
 use Rattle.definition.specs.State.{World, world, is_held}
-use Rattle.definition.specs.declared.judge.Judged.{Judged}
-use Rattle.definition.specs.declared.judge.Judged.TheVariants.{Faulty, Acts}
 use Rattle.definition.specs.Judge.{is_reti, judge}
 use Rattle.definition.specs.Act.{registers_after, memory_after}
 use Rattle.definition.specs.Interrupt.{Step, gives, due, reset, interrupted, resumed}
@@ -49,9 +47,9 @@ is_hlt (Compute o s d) = false
 is_hlt (Not d) = false
 
 -- where nothing is held, the saved copy is handed back zero
-abbrev pub saved_for : SavedContext → List ℕ → List ℕ
-saved_for Unheld saved = zeros
-saved_for (Held previous age) saved = saved
+abbrev pub saved_for : Option SavedContext → List ℕ → List ℕ
+saved_for None saved = zeros
+saved_for (Some _) saved = saved
 
 module _ (S : Setting) where
   -- the machine after the instruction and its cycles; its address becomes the previous one
@@ -79,18 +77,18 @@ module _ (S : Setting) where
   returning m mem t previous age = resumed S t previous age m.saved mem t.slot
 
   -- RETI while a visit is held returns to it
-  unfoldable pub performed : State → List ℕ → SavedContext → Instruction → Step
-  performed m mem Unheld i = ordinary m mem i
-  performed m mem (Held previous age) i =
-      when is_reti i then returning m mem (pass S (cycles_of i) m.time) previous age else ordinary m mem i
+  unfoldable pub performed : State → List ℕ → Option SavedContext → Instruction → Step
+  performed m mem None i = ordinary m mem i
+  performed m mem (Some visit) i =
+      when is_reti i then returning m mem (pass S (cycles_of i) m.time) visit.previous visit.age else ordinary m mem i
 
   -- a cause resets, an instruction acts
-  unfoldable pub step_judged : State → List ℕ → Judged → Step
-  step_judged m mem (Faulty c) = reset S c m mem
-  step_judged m mem (Acts i) = performed m mem m.context i
+  unfoldable pub step_judged : State → List ℕ → Result Instruction Cause → Step
+  step_judged m mem (Err c) = reset S c m mem
+  step_judged m mem (Ok i) = performed m mem m.context i
 
   -- what the step of a world is judged
-  abbrev pub judged : World → Judged
+  abbrev pub judged : World → Result Instruction Cause
   judged w =
       let m = w.state in judge S.layout (is_held m.context) m.registers w.memory m.previous
 

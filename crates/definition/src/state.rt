@@ -1,34 +1,27 @@
 // The state of the machine. Memory stands beside it.
 
-// A clock value, or none.
-#[derive(Clone, Copy)]
-pub enum Stamp {
-    Never,
-    At(u64),
-}
-
-// The clock, the pending slot and the alarm.
+// The clock, and the stamps of the pending slot and of the alarm, where there are such.
 #[derive(Clone, Copy)]
 pub struct Time {
     pub clock: u64,
-    pub slot: Stamp,
-    pub alarm: Stamp,
+    pub slot: Option<u64>,
+    pub alarm: Option<u64>,
 }
 
-// Document 01's held visit: whether there is one, its previous address and its age. Its registers stand in the state's saved copy.
+// What is held of a module that an interrupt broke into: its previous address and the age. Its registers stand in the state's saved copy.
 #[derive(Clone, Copy)]
-pub enum SavedContext {
-    Unheld,
-    Held { previous: u16, age: u8 },
+pub struct SavedContext {
+    pub previous: u16,
+    pub age: u8,
 }
 
-// The registers, the previous instruction's address, the time, the held visit with its saved registers, and whether it is halted.
+// The registers, the previous instruction's address, the time, the held visit if there is one, its saved registers, and whether it is halted.
 #[derive(Clone, Copy)]
 pub struct State {
     pub registers: [u16; 16],
     pub previous: u16,
     pub time: Time,
-    pub context: SavedContext,
+    pub context: Option<SavedContext>,
     pub saved: [u16; 16],
     pub halted: bool,
 }

@@ -1,4 +1,5 @@
 -- Two machines outside that are in step stay so: they keep, fall or resume together, and are seen alike. Assumes nothing.
+use Rattle.std.specs.Prelude.{None}
 use mathlib.Core.Path.{◌≡◌, refl, sym, ◌∙◌, ap, fun_ext}
 use mathlib.Core.Bool.{true, false, true≢false}
 use mathlib.Core.List.{List}
@@ -9,13 +10,12 @@ use Rattle.layout.specs.Sections.{inside, outside}
 use Rattle.layout.specs.Rules.{accepted}
 use Rattle.definition.specs.Setting.{Setting}
 use Rattle.definition.specs.declared.state.Time.{Time}
-use Rattle.definition.specs.declared.state.SavedContext.TheVariants.{Unheld, Held}
 use Rattle.answers.specs.declared.answer.Outcome.{Outcome}
 use Rattle.answers.specs.declared.answer.Outcome.TheVariants.{Ran, Plain, Padded, Chained, Back, Reset, Halted}
 use Rattle.definition.specs.Registers.{pc, cleared}
 use Rattle.answers.specs.Outcome.{is_reset}
 use Rattle.definition.specs.Time.{pass, emptied}
-use Rattle.definition.specs.State.{World, vector, is_held, reset_address, start}
+use Rattle.definition.specs.State.{World, vector, is_held, reset_address, start, held_visit}
 use Rattle.definition.specs.Interrupt.{Step}
 use Rattle.definition.specs.Run.{world_after, step_of}
 use Rattle.definition.specs.Laws.{SameOutside, SameView, SameStep, is_resuming, SeenAlike, alike, OutsideLocal}
@@ -68,10 +68,10 @@ module _ (S : Setting) where
     keep : SameStep S s u → s.state.context ≡ a.state.context → u.state.context ≡ b.state.context
         → inside S.layout s.state.previous ≡ false → inside S.layout u.state.previous ≡ false
         → is_reset s.outcome ≡ false → is_reset u.outcome ≡ false → Both a b s u
-    both_reset : SameStep S s u → s.state.context ≡ Unheld → u.state.context ≡ Unheld
+    both_reset : SameStep S s u → s.state.context ≡ None → u.state.context ≡ None
         → inside S.layout s.state.previous ≡ false → inside S.layout u.state.previous ≡ false
         → is_reset s.outcome ≡ true → is_reset u.outcome ≡ true → Both a b s u
-    resume : (previous age previous' age' : ℕ) → a.state.context ≡ Held previous age → b.state.context ≡ Held previous' age'
+    resume : (previous age previous' age' : ℕ) → a.state.context ≡ held_visit previous age → b.state.context ≡ held_visit previous' age'
         → is_reset s.outcome ≡ false → is_reset u.outcome ≡ false
         → is_resuming s.outcome ≡ true → is_resuming u.outcome ≡ true
         → InsideStep S (after_reti S a.state) true a.memory age s

@@ -1,4 +1,6 @@
 -- A list of calls is a chain of steps of a running machine, each from where the last one left. Assumes nothing.
+use Rattle.base.specs.declared.refusal.Refusal.{Refusal}
+use Rattle.std.specs.Prelude.{Result, Err, Ok}
 use mathlib.Core.Path.{◌≡◌, refl, sym, ◌∙◌, ap, subst}
 use mathlib.Core.Bool.{false, true≢false}
 use mathlib.Core.List.{List, [], ◌∷◌, ◌++◌}
@@ -7,9 +9,7 @@ use native.Mathlib.Omega.{arith}
 use lib.Dec.{eqb}
 use borrow.Author.Tests.{leb-true}
 use Rattle.base.specs.Limits.{memory_bytes, last_clock}
-use Rattle.base.specs.declared.verdict.Verdict.{Verdict}
-use Rattle.base.specs.declared.verdict.Verdict.TheVariants.{Taken as taken, Refused as refused}
-use Rattle.base.specs.Verdict.{verdict}
+use Rattle.base.specs.Verdict.{verdict, unrefused}
 use Rattle.layout.specs.Rules.{accepted}
 use Rattle.definition.specs.Setting.{Setting}
 use Rattle.answers.specs.declared.answer.End.TheVariants.{Spent}
@@ -91,17 +91,17 @@ module _ (S : Setting) where
   unfolding steps_of
   steps_chain w stepping = go (verdict (step_tests S w))
     where
-      go : (v : Verdict) → Chain w (moves_when v (moves S 1 w))
-      go taken = moves_chain 1 w
-      go (refused r) = done
+      go : (v : Result (Unit {0}) Refusal) → Chain w (moves_when v (moves S 1 w))
+      go (Ok _) = moves_chain 1 w
+      go (Err r) = done
   steps_chain w (Calls.running budget) = go (verdict (run_tests S budget w))
     where
-      go : (v : Verdict) → Chain w (moves_when v (moves S budget w))
-      go taken = moves_chain budget w
-      go (refused r) = done
+      go : (v : Result (Unit {0}) Refusal) → Chain w (moves_when v (moves S budget w))
+      go (Ok _) = moves_chain budget w
+      go (Err r) = done
 
   -- no step is taken from a clock above the last
-  step_clock : (w : World) → verdict (step_tests S w) ≡ taken → w.state.time.clock ≤ last_clock
+  step_clock : (w : World) → verdict (step_tests S w) ≡ unrefused → w.state.time.clock ≤ last_clock
   step_clock w e =
       leb-true _ _ (all_hold _ e).1.1.1.1.0
 
@@ -117,15 +117,15 @@ module _ (S : Setting) where
   unfolding left_by steps_of step_call run_call run moves
   left_end w stepping = go (verdict (step_tests S w)) refl
     where
-      go : (v : Verdict) → verdict (step_tests S w) ≡ v → left_by S w stepping ≡ end_of w (steps_of S w stepping)
-      go taken e = rw e (step_ends_there w (ending w.state) (ends w.state) (step_clock w e))
-      go (refused r) e = rw e (unfold end_of in refl)
+      go : (v : Result (Unit {0}) Refusal) → verdict (step_tests S w) ≡ v → left_by S w stepping ≡ end_of w (steps_of S w stepping)
+      go (Ok _) e = rw e (step_ends_there w (ending w.state) (ends w.state) (step_clock w e))
+      go (Err r) e = rw e (unfold end_of in refl)
   left_end w (Calls.running budget) = go (verdict (run_tests S budget w)) refl
     where
-      go : (v : Verdict) → verdict (run_tests S budget w) ≡ v
+      go : (v : Result (Unit {0}) Refusal) → verdict (run_tests S budget w) ≡ v
           → left_by S w (Calls.running budget) ≡ end_of w (steps_of S w (Calls.running budget))
-      go taken e = rw e (run_ends_there 0 budget w)
-      go (refused r) e = rw e (unfold end_of in refl)
+      go (Ok _) e = rw e (run_ends_there 0 budget w)
+      go (Err r) e = rw e (unfold end_of in refl)
 
   -- ---- a list of calls
 
@@ -171,14 +171,14 @@ module _ (S : Setting) where
     unfolding steps_of
     no_steps w stepping = go (verdict (step_tests S w)) refl
       where
-        go : (v : Verdict) → verdict (step_tests S w) ≡ v → steps_of S w stepping ≡ []
-        go taken e = absurd (true≢false (sym (all_hold _ e).1.0 ∙ n))
-        go (refused r) e = rw e
+        go : (v : Result (Unit {0}) Refusal) → verdict (step_tests S w) ≡ v → steps_of S w stepping ≡ []
+        go (Ok _) e = absurd (true≢false (sym (all_hold _ e).1.0 ∙ n))
+        go (Err r) e = rw e
     no_steps w (Calls.running budget) = go (verdict (run_tests S budget w)) refl
       where
-        go : (v : Verdict) → verdict (run_tests S budget w) ≡ v → steps_of S w (Calls.running budget) ≡ []
-        go taken e = absurd (true≢false (sym (all_hold _ e).1.0 ∙ n))
-        go (refused r) e = rw e
+        go : (v : Result (Unit {0}) Refusal) → verdict (run_tests S budget w) ≡ v → steps_of S w (Calls.running budget) ≡ []
+        go (Ok _) e = absurd (true≢false (sym (all_hold _ e).1.0 ∙ n))
+        go (Err r) e = rw e
 
     pub none_run : (w : World) (calls : List Call) → run_of S w calls ≡ []
     unfolding run_of

@@ -1,4 +1,6 @@
 -- The duration law and the twelve-cycle law, of every run from the start. Assumes nothing.
+use Rattle.base.specs.declared.refusal.Refusal.{Refusal}
+use Rattle.std.specs.Prelude.{Option, None, Some, Result, Ok, Err}
 use mathlib.Core.Path.{◌≡◌, refl, sym, ◌∙◌, ap, subst}
 use mathlib.Core.Bool.{true, false, not, true≢false}
 use mathlib.Core.List.{List, [], ◌∷◌, ◌++◌}
@@ -6,8 +8,6 @@ use Prim.Native.Nat.{ℕ, ◌+◌}
 use native.Mathlib.Omega.{arith}
 use borrow.Author.Tests.{not-true, eqb-true}
 use Rattle.base.proofs.Tests.{cases, each}
-use Rattle.base.specs.declared.verdict.Verdict.{Verdict}
-use Rattle.base.specs.declared.verdict.Verdict.TheVariants.{Taken as taken, Refused as refused}
 use Rattle.base.specs.Verdict.{verdict}
 use Rattle.isa.specs.declared.instruction.Instruction.{Instruction}
 use Rattle.isa.specs.declared.instruction.Instruction.TheVariants.{Reti}
@@ -18,13 +18,10 @@ use Rattle.layout.proofs.LayoutLaws.{entry_section}
 use Rattle.layout.proofs.SectionLaws.{section_inside, inside_not_outside}
 use Rattle.alu.specs.Status.{gie}
 use Rattle.definition.specs.Setting.{Setting}
-use Rattle.definition.specs.declared.state.Stamp.TheVariants.{Never, At}
 use Rattle.definition.specs.declared.state.SavedContext.{SavedContext}
-use Rattle.definition.specs.declared.state.SavedContext.TheVariants.{Unheld, Held}
 use Rattle.definition.specs.Registers.{pc, sr}
 use Rattle.definition.specs.Time.{pass}
-use Rattle.definition.specs.State.{World, is_held}
-use Rattle.definition.specs.declared.judge.Judged.TheVariants.{Acts}
+use Rattle.definition.specs.State.{World, is_held, held_visit}
 use Rattle.definition.specs.Step.{executed, judged}
 use Rattle.definition.specs.Run.{Move}
 use Rattle.definition.specs.Calls.{start_tests, start_answered, start_call}
@@ -45,9 +42,9 @@ Lasted S v later =
     (e : VisitEnd) → starts_visit S v.before.state ≡ true → fate_at (visits S away (v ∷ later)) 0 ≡ ended e
     → e.clock ≡ v.before.state.time.clock + e.own + meanwhile S (v ∷ later)
 
-unheld_of : (v : SavedContext) → not (is_held v) ≡ true → v ≡ Unheld
-unheld_of Unheld h = refl
-unheld_of (Held previous age) h = absurd (true≢false (sym h))
+unheld_of : (v : Option SavedContext) → not (is_held v) ≡ true → v ≡ None
+unheld_of None h = refl
+unheld_of (Some _) h = absurd (true≢false (sym h))
 
 module _ (S : Setting) (fit : accepted S.layout ≡ true) where
   first_lasted : {w : World} {vs : List Move} → Chain S w (moved S w ∷ vs) → Steady S w.state
@@ -93,9 +90,9 @@ start_world_lem : (S : Setting) (mem : List ℕ) → Steady S (start_world mem).
 unfolding start_call
 start_world_lem S mem = go (verdict (start_tests mem))
   where
-    go : (v : Verdict) → Steady S (start_answered mem v).state
-    go taken = start_steady S mem
-    go (refused r) = start_steady S []
+    go : (v : Result (Unit {0}) Refusal) → Steady S (start_answered mem v).state
+    go (Ok _) = start_steady S mem
+    go (Err r) = start_steady S []
 
 pub duration : Duration
 unfolding Duration
@@ -107,12 +104,12 @@ duration S mem calls us v later e made run h f =
 -- the two halves of the twelve-cycle law, of one step
 abbrev Soon : Setting → ℕ → Move → Type 0
 Soon S s v =
-    ((i : Instruction) → inside S.layout (pc v.before.state.registers) ≡ true → judged S v.before ≡ Acts i
+    ((i : Instruction) → inside S.layout (pc v.before.state.registers) ≡ true → judged S v.before ≡ Ok i
     → gie (sr v.before.state.registers) ≡ true
-    → (executed S v.before.state v.before.memory i).time.slot ≡ At s → Served s v)
-    × ((previous age : ℕ) → v.before.state.context ≡ Held previous age → judged S v.before ≡ Acts Reti
-    → (pass S (cycles_of Reti) v.before.state.time).slot ≡ Never
-    → (pass S age (pass S (cycles_of Reti) v.before.state.time)).slot ≡ At s → Served s v)
+    → (executed S v.before.state v.before.memory i).time.slot ≡ Some s → Served s v)
+    × ((previous age : ℕ) → v.before.state.context ≡ held_visit previous age → judged S v.before ≡ Ok Reti
+    → (pass S (cycles_of Reti) v.before.state.time).slot ≡ None
+    → (pass S age (pass S (cycles_of Reti) v.before.state.time)).slot ≡ Some s → Served s v)
 
 soon : (S : Setting) (s : ℕ) (w : World) → Steady S w.state → w.state.halted ≡ false
     → Soon S s (moved S w)
@@ -124,9 +121,9 @@ soon S s w k r = (
   (λ p a h e n f. twelve_in_return S w.state w.memory p a s r k.frame h e n f),
 )
   where
-    unheld : (v : SavedContext) → is_held v ≡ false → v ≡ Unheld
-    unheld Unheld h = refl
-    unheld (Held p a) h = absurd (true≢false h)
+    unheld : (v : Option SavedContext) → is_held v ≡ false → v ≡ None
+    unheld None h = refl
+    unheld (Some _) h = absurd (true≢false h)
 
 pub twelve : Twelve
 unfolding Twelve

@@ -1,4 +1,5 @@
 -- One run by itself, in the module: where it next comes into the open. Assumes nothing.
+use Rattle.std.specs.Prelude.{None}
 use mathlib.Core.Path.{◌≡◌, refl, sym, ◌∙◌, ap, subst}
 use mathlib.Core.Bool.{Bool, true, false}
 use mathlib.Core.List.{List, [], ◌∷◌, ◌++◌}
@@ -13,9 +14,7 @@ use Rattle.layout.specs.Sections.{outside}
 use Rattle.layout.specs.Rules.{accepted}
 use Rattle.alu.specs.Status.{gie}
 use Rattle.definition.specs.Setting.{Setting}
-use Rattle.definition.specs.declared.state.Stamp.TheVariants.{Never}
 use Rattle.definition.specs.declared.state.Time.{Time}
-use Rattle.definition.specs.declared.state.SavedContext.TheVariants.{Unheld}
 use Rattle.definition.specs.Registers.{pc, sr}
 use Rattle.definition.specs.Time.{pass, emptied}
 use Rattle.definition.specs.State.{World, is_held}
@@ -141,7 +140,7 @@ module _ (S : Setting) (T : ℕ) where
   module _ (t : Time) (k : ℕ) (g : Bool) (base : List ℕ) where
     -- n cycles in from the base
     pub record Within (n start : ℕ) (w : World) (p : Phase) : Type 0 where
-      pub context : w.state.context ≡ Unheld
+      pub context : w.state.context ≡ None
       pub running : w.state.halted ≡ false
       pub time : w.state.time ≡ pass S n t
       pub enabled : gie (sr w.state.registers) ≡ g
@@ -150,7 +149,7 @@ module _ (S : Setting) (T : ℕ) where
 
     -- no request is pending n cycles in, where one would be served
     abbrev pub Unasked : ℕ → Type 0
-    Unasked n = g ≡ true → (pass S n t).slot ≡ Never
+    Unasked n = g ≡ true → (pass S n t).slot ≡ None
 
     -- where the run next comes into the open
     pub data Emerges (ss : List Sighting) (xs : List Visit) (end : World) (len : ℕ) : Type 0 where
@@ -160,13 +159,13 @@ module _ (S : Setting) (T : ℕ) where
       late : (n : ℕ) → T < t.clock + n + 4 → Unasked n → ss ≡ [] → Beyond T t.clock k (fate_at xs 0) → Emerges ss xs end len
       -- it leaves after n cycles
       departed : (n start : ℕ) (r : Rest ss xs end len) → t.clock + n ≤ T → Unasked n
-          → r.world.state.time ≡ pass S n t → r.world.state.context ≡ Unheld
+          → r.world.state.time ≡ pass S n t → r.world.state.context ≡ None
           → outside S.layout (pc r.world.state.registers) ≡ true → r.phase ≡ visiting start (k + n)
           → SameOutside S base r.world.memory
           → fate_at xs 0 ≡ end_at (t.clock + n) (k + n) leaving r.world.state.registers → Emerges ss xs end len
       -- its own reset, begun after n cycles
       self_reset : (n : ℕ) (x : Visit) (ys : List Visit) → xs ≡ x ∷ ys → (r : Rest ss ys end len) → t.clock + n + 4 ≤ T → Unasked n
-          → r.world.state.time ≡ emptied (pass S 4 (pass S n t)) → r.world.state.context ≡ Unheld
+          → r.world.state.time ≡ emptied (pass S 4 (pass S n t)) → r.world.state.context ≡ None
           → r.phase ≡ away → SameOutside S base r.world.memory
           → x.fate ≡ end_at (t.clock + n + 4) (k + n + 4) own_reset r.world.state.registers → Emerges ss xs end len
       -- a request breaks in, found after n cycles

@@ -1,4 +1,5 @@
 -- What each step adds to a visit: from where it is, a visit that ends lasts its own cycles and what its interrupts add. Assumes nothing.
+use Rattle.std.specs.Prelude.{Option, None, Ok, Some}
 use mathlib.Core.Path.{◌≡◌, refl, sym, ◌∙◌, ap, subst}
 use mathlib.Core.Bool.{Bool, true, false, true≢false}
 use mathlib.Core.List.{List, ◌∷◌}
@@ -11,15 +12,13 @@ use Rattle.layout.specs.Rules.{accepted}
 use Rattle.definition.specs.Setting.{Setting}
 use Rattle.definition.specs.declared.state.Time.{Time}
 use Rattle.definition.specs.declared.state.SavedContext.{SavedContext}
-use Rattle.definition.specs.declared.state.SavedContext.TheVariants.{Unheld, Held}
 use Rattle.definition.specs.declared.state.State.{State}
 use Rattle.answers.specs.declared.answer.Outcome.{Outcome}
 use Rattle.answers.specs.declared.answer.Outcome.TheVariants.{Plain, Padded}
 use Rattle.definition.specs.Registers.{pc}
 use Rattle.answers.specs.Outcome.{is_reset}
 use Rattle.definition.specs.Time.{pass, emptied}
-use Rattle.definition.specs.State.{World, is_held, world}
-use Rattle.definition.specs.declared.judge.Judged.TheVariants.{Acts}
+use Rattle.definition.specs.State.{World, is_held, world, held_visit}
 use Rattle.definition.specs.Interrupt.{Step, age_of, plain, padded, chained, back, reset}
 use Rattle.definition.specs.Step.{executed, judged}
 use Rattle.definition.specs.Run.{Move, step_of}
@@ -32,9 +31,9 @@ use Rattle.secrecy.proofs.Visiting.{phase_at, held_drops, held_goes, leaves, Goo
 use Rattle.secrecy.specs.Duration.{service_adds, inside_adds, meanwhile}
 
 -- what a held visit still owes of the 17 cycles of its padded interrupt: RETI's 5 and the return padding
-abbrev pub owed : SavedContext → ℕ
-owed Unheld = 0
-owed (Held previous age) = 5 + age
+abbrev pub owed : Option SavedContext → ℕ
+owed None = 0
+owed (Some visit) = 5 + visit.age
 
 -- the clock after a step from the clock c, with what it leaves owed, is what came before and n more
 abbrev After : ℕ → ℕ → Step → Type 0
@@ -70,13 +69,13 @@ module _ (S : Setting) where
         _ (λ t r. (refl, refl, refl)) (λ t r. absurd (true≢false r))
 
     -- the machine after an instruction holds what it held, its cycles later
-    next_after : (i : Instruction) → judged S (world m mem) ≡ Acts i
+    next_after : (i : Instruction) → judged S (world m mem) ≡ Ok i
         → ((next S m mem i).context ≡ m.context) × ((next S m mem i).time.clock ≡ m.time.clock + own)
     next_after i e =
         (unfold executed in refl, next_clock S m mem i ∙ ap (λ (n : ℕ). m.time.clock + n) (sym (ap judged_cycles e)))
 
     -- a step of a service routine
-    service_adds_lem : ((i : Instruction) → judged S (world m mem) ≡ Acts i → inside S.layout (pc m.registers) ≡ false) → (s : Step)
+    service_adds_lem : ((i : Instruction) → judged S (world m mem) ≡ Ok i → inside S.layout (pc m.registers) ≡ false) → (s : Step)
         → Way S m mem s → is_reset s.outcome ≡ false
         → After (m.time.clock + owed m.context) (service_adds s.outcome own) s
     unfolding reset chained back pass emptied
@@ -96,7 +95,7 @@ module _ (S : Setting) where
         (padded_outcome k x mem) (omega (arith, padded_adds k x mem, returned_clock p a, ap owed u.holding))
 
     -- an instruction of the module, none being held
-    inside_adds_lem : ((i : Instruction) → judged S (world m mem) ≡ Acts i → inside S.layout (pc m.registers) ≡ true) → m.context ≡ Unheld → (s : Step)
+    inside_adds_lem : ((i : Instruction) → judged S (world m mem) ≡ Ok i → inside S.layout (pc m.registers) ≡ true) → m.context ≡ None → (s : Step)
         → Way S m mem s → is_reset s.outcome ≡ false → After (m.time.clock + own) (inside_adds s.outcome) s
     inside_adds_lem ins free s (resets c e) r = absurd (true≢false (unfold reset in r))
     inside_adds_lem ins free s (halts i e h) r = let a = next_after i e in omega (arith, a.1, ap owed (a.0 ∙ free))
@@ -166,13 +165,13 @@ module _ (S : Setting) (fit : accepted S.layout ≡ true) where
     steady_after : Steady S s.state
     steady_after = steady_next S w.state w.memory fit r steady
 
-    held_on : (previous age : ℕ) → w.state.context ≡ Held previous age → is_reset s.outcome ≡ false
+    held_on : (previous age : ℕ) → w.state.context ≡ held_visit previous age → is_reset s.outcome ≡ false
         → Service S w.state w.memory s → Good S s.state (visiting start own)
     held_on previous age h n (kept k p q x) = good_held S _ steady_after start own previous age (k ∙ h)
     held_on previous age h n (was_reset k p q x) = absurd (true≢false (sym q ∙ n))
     held_on previous age h n (resuming q a k x y f g) = inside_good S _ _ _ _ start own s steady_after g
 
-    held_lasts : (previous age : ℕ) → w.state.context ≡ Held previous age
+    held_lasts : (previous age : ℕ) → w.state.context ≡ held_visit previous age
         → Lasts (ahead w) own (meanwhile S (v ∷ vs)) (fate_at (visits S (visiting start own) (v ∷ vs)) 0)
     held_lasts previous age h =
         cases (is_reset s.outcome)
@@ -184,13 +183,13 @@ module _ (S : Setting) (fit : accepted S.layout ≡ true) where
         (lasts_on (ahead (after S w)) (ahead w) own own _ (meanwhile S vs) _ (omega arith)
         (on own (held_on previous age h q (held_step S fit w.state w.memory steady r (ap is_held h))))))
 
-    left_lasts : w.state.context ≡ Unheld → outside S.layout (pc w.state.registers) ≡ true
+    left_lasts : w.state.context ≡ None → outside S.layout (pc w.state.registers) ≡ true
         → Lasts (ahead w) own (meanwhile S (v ∷ vs)) (fate_at (visits S (visiting start own) (v ∷ vs)) 0)
     left_lasts h o =
         rw (leaves S (visiting start own) v vs (ap is_held h) o, left_adds S v vs (ap is_held h) o)
         (unfold Lasts in omega (arith, ap owed h))
 
-    inner_lasts : (p : Phase) → w.state.context ≡ Unheld → outside S.layout (pc w.state.registers) ≡ false
+    inner_lasts : (p : Phase) → w.state.context ≡ None → outside S.layout (pc w.state.registers) ≡ false
         → phase_at S w.state p ≡ visiting start own → Inner S w.state w.memory s
         → Lasts (ahead w) own (meanwhile S (v ∷ vs)) (fate_at (visits S p (v ∷ vs)) 0)
     inner_lasts p h o e (failed f x) =
@@ -213,15 +212,15 @@ module _ (S : Setting) (fit : accepted S.layout ≡ true) where
       go w.state.context refl (outside S.layout (pc w.state.registers)) refl
       (λ n h. lasting (visiting start n) start n c h (phase_visiting S _ start n h.phase))
     where
-      go : (h : SavedContext) → w.state.context ≡ h → (b : Bool) → outside S.layout (pc w.state.registers) ≡ b
+      go : (h : Option SavedContext) → w.state.context ≡ h → (b : Bool) → outside S.layout (pc w.state.registers) ≡ b
           → ((n : ℕ) → Good S (after S w).state (visiting start n)
           → Lasts (ahead (after S w)) n (meanwhile S vs) (fate_at (visits S (visiting start n) vs) 0))
           → Lasts (ahead w) own (meanwhile S (moved S w ∷ vs)) (fate_at (visits S p (moved S w ∷ vs)) 0)
-      go (Held q a) h b o on =
+      go (Some visit) h b o on =
           subst (λ (x : Phase). Lasts (ahead w) own (meanwhile S (moved S w ∷ vs)) (fate_at (visits S x (moved S w ∷ vs)) 0))
-          (sym e ∙ phase_held S w.state p (ap is_held h)) (held_lasts w vs start own r g.steady on q a h)
-      go Unheld h true o on =
+          (sym e ∙ phase_held S w.state p (ap is_held h)) (held_lasts w vs start own r g.steady on visit.previous visit.age h)
+      go None h true o on =
           subst (λ (x : Phase). Lasts (ahead w) own (meanwhile S (moved S w ∷ vs)) (fate_at (visits S x (moved S w ∷ vs)) 0))
           (sym e ∙ phase_outside S w.state p o) (left_lasts w vs start own r g.steady on h o)
-      go Unheld h false o on =
+      go None h false o on =
           inner_lasts w vs start own r g.steady on p h o e (inner_step S fit w.state w.memory g.steady r h o)

@@ -1,4 +1,5 @@
 -- Two runs in the module, from one base: with the premise they come into the open alike. Assumes nothing.
+use Rattle.std.specs.Prelude.{Option, None, Some}
 use mathlib.Core.Path.{◌≡◌, refl, sym, ◌∙◌, ap, subst, subst₂}
 use mathlib.Core.Bool.{Bool, true, false, true≢false}
 use mathlib.Core.List.{List, [], ◌∷◌}
@@ -12,13 +13,10 @@ use Rattle.base.proofs.Tests.{cases, when_true}
 use Rattle.layout.specs.Sections.{outside}
 use Rattle.layout.specs.Rules.{accepted}
 use Rattle.definition.specs.Setting.{Setting}
-use Rattle.definition.specs.declared.state.Stamp.{Stamp}
-use Rattle.definition.specs.declared.state.Stamp.TheVariants.{Never, At}
 use Rattle.definition.specs.declared.state.Time.{Time}
-use Rattle.definition.specs.declared.state.SavedContext.TheVariants.{Unheld, Held}
 use Rattle.definition.specs.Registers.{pc}
 use Rattle.definition.specs.Time.{pass, emptied}
-use Rattle.definition.specs.State.{World, is_held}
+use Rattle.definition.specs.State.{World, is_held, held_visit}
 use Rattle.definition.specs.Interrupt.{Step}
 use Rattle.definition.specs.Run.{Move, world_after}
 use Rattle.definition.specs.Laws.{PassAdds, SameOutside, SameView}
@@ -39,14 +37,14 @@ module _ (S : Setting) (t : Time) where
   unfolding PassAdds
   pass_on a b h = let q : a + (b - a) ≡ b = omega arith in pass_adds S a (b - a) t ∙ ap (λ (z : ℕ). pass S z t) q
 
-  slot_on : (a b s : ℕ) → a ≤ b → (pass S a t).slot ≡ At s → (pass S b t).slot ≡ At s
+  slot_on : (a b s : ℕ) → a ≤ b → (pass S a t).slot ≡ Some s → (pass S b t).slot ≡ Some s
   slot_on a b s h e = ap (λ (z : Time). z.slot) (sym (pass_on a b h)) ∙ slot_kept S (b - a) (pass S a t) s e
 
-  not_never : {A : Type 0} (x : Stamp) (s : ℕ) → x ≡ At s → x ≡ Never → A
+  not_never : {A : Type 0} (x : Option ℕ) (s : ℕ) → x ≡ Some s → x ≡ None → A
   not_never x s e f = let z : ◌≡◌ {A = ℕ} 0 1 = cc in absurd (omega arith)
 
   -- a slot that is empty after a cycles is filled by a later stamp
-  slot_later : (a b s : ℕ) → (pass S a t).slot ≡ Never → (pass S b t).slot ≡ At s → t.clock + a < s
+  slot_later : (a b s : ℕ) → (pass S a t).slot ≡ None → (pass S b t).slot ≡ Some s → t.clock + a < s
   slot_later a b s e f =
       cases (leb a b)
       (λ h.
@@ -56,13 +54,13 @@ module _ (S : Setting) (t : Time) where
       (λ h. not_never _ s (slot_on b a s (let l = leb-false a b h in omega arith) f) e)
 
   -- it is filled but once
-  slot_once : (a b s u : ℕ) → (pass S a t).slot ≡ At s → (pass S b t).slot ≡ At u → s ≡ u
+  slot_once : (a b s u : ℕ) → (pass S a t).slot ≡ Some s → (pass S b t).slot ≡ Some u → s ≡ u
   slot_once a b s u e f =
       cases (leb a b)
       (λ h. same _ (slot_on a b s (leb-true a b h) e) f)
       (λ h. same _ e (slot_on b a u (let l = leb-false a b h in omega arith) f))
     where
-      same : (x : Stamp) → x ≡ At s → x ≡ At u → s ≡ u
+      same : (x : Option ℕ) → x ≡ Some s → x ≡ Some u → s ≡ u
       same x p q = cc
 
 -- ---- agreement, either way round
@@ -165,10 +163,10 @@ not_both d i j rs us f x e = let z = ap way_cycles (both_ends d i j leaving own_
 module _ (S : Setting) where
   -- no visit goes on; both are left with this step; both are held, with equal own cycles but for their ages
   pub data Paired (a b : World) (p q : Phase) : Type 0 where
-    both_away : a.state.context ≡ Unheld → b.state.context ≡ Unheld → p ≡ away → q ≡ away → Paired a b p q
-    both_leaving : a.state.context ≡ Unheld → b.state.context ≡ Unheld → outside S.layout (pc a.state.registers) ≡ true
+    both_away : a.state.context ≡ None → b.state.context ≡ None → p ≡ away → q ≡ away → Paired a b p q
+    both_leaving : a.state.context ≡ None → b.state.context ≡ None → outside S.layout (pc a.state.registers) ≡ true
         → (s j u k : ℕ) → p ≡ visiting s j → q ≡ visiting u k → Paired a b p q
-    both_held : (r i u k s t own : ℕ) → a.state.context ≡ Held r i → b.state.context ≡ Held u k
+    both_held : (r i u k s t own : ℕ) → a.state.context ≡ held_visit r i → b.state.context ≡ held_visit u k
         → p ≡ visiting s (own + i) → q ≡ visiting t (own + k) → Paired a b p q
 
   pub record InStep (a b : World) (p q : Phase) : Type 0 where
@@ -216,7 +214,7 @@ module _ (S : Setting) (fit : accepted S.layout ≡ true) (T : ℕ) where
 
     served_silent : {ss : List Sighting} {xs : List Visit} {a : World} {m : ℕ} (n l stamp : ℕ) (s : Step)
         (r : Rest S T ss xs a m)
-        → T < t.clock + l + 4 → (pass S l t).slot ≡ Never → BrokenInto S t base n stamp s → r.world ≡ world_after s
+        → T < t.clock + l + 4 → (pass S l t).slot ≡ None → BrokenInto S t base n stamp s → r.world ≡ world_after s
         → ss ≡ []
     served_silent n l stamp s r h e x w =
         let a = slot_later S t l n stamp e x.slot in
@@ -246,7 +244,7 @@ module _ (S : Setting) (fit : accepted S.layout ≡ true) (T : ℕ) where
       both_depart : (l l' start start' : ℕ) (r : Rest S T ss xs a m) (r' : Rest S T us ys b n)
           → (k + l ≡ k + l') × (leaving ≡ leaving) × (r.world.state.registers ≡ r'.world.state.registers)
           → r.world.state.time ≡ pass S l t → r'.world.state.time ≡ pass S l' t
-          → r.world.state.context ≡ Unheld → r'.world.state.context ≡ Unheld
+          → r.world.state.context ≡ None → r'.world.state.context ≡ None
           → outside S.layout (pc r.world.state.registers) ≡ true
           → r.phase ≡ visiting start (k + l) → r'.phase ≡ visiting start' (k + l')
           → SameOutside S base r.world.memory → SameOutside S base r'.world.memory → Agree T a b ss us
@@ -266,7 +264,7 @@ module _ (S : Setting) (fit : accepted S.layout ≡ true) (T : ℕ) where
           → (k + l + 4 ≡ k + l' + 4) × (own_reset ≡ own_reset) × (r.world.state.registers ≡ r'.world.state.registers)
           → r.world.state.time ≡ emptied (pass S 4 (pass S l t))
           → r'.world.state.time ≡ emptied (pass S 4 (pass S l' t))
-          → r.world.state.context ≡ Unheld → r'.world.state.context ≡ Unheld → r.phase ≡ away → r'.phase ≡ away
+          → r.world.state.context ≡ None → r'.world.state.context ≡ None → r.phase ≡ away → r'.phase ≡ away
           → SameOutside S base r.world.memory → SameOutside S base r'.world.memory → Agree T a b ss us
       both_fall l l' x x' zs zs' ex ey r r' q tm tm' hd hd' ph ph' mm mm' =
           let e : l ≡ l' = let q0 = q.0 in omega arith in

@@ -1,4 +1,6 @@
 -- Demand 3: secrecy over two whole lists of calls. Assumes nothing.
+use Rattle.base.specs.declared.refusal.Refusal.{Refusal}
+use Rattle.std.specs.Prelude.{None, Result, Err, Ok}
 use mathlib.Core.Path.{◌≡◌, refl, sym, ◌∙◌, ap, subst, subst₂}
 use mathlib.Core.Bool.{true, false}
 use mathlib.Core.List.{List}
@@ -8,14 +10,10 @@ use lib.ListN.{length}
 use borrow.Author.Tests.{eqb-true}
 use Rattle.base.specs.Limits.{memory_bytes}
 use Rattle.base.proofs.Tests.{cases}
-use Rattle.base.specs.declared.verdict.Verdict.{Verdict}
-use Rattle.base.specs.declared.verdict.Verdict.TheVariants.{Taken as taken, Refused as refused}
-use Rattle.base.specs.Verdict.{verdict}
+use Rattle.base.specs.Verdict.{verdict, unrefused}
 use Rattle.layout.specs.Sections.{inside}
 use Rattle.layout.specs.Rules.{accepted}
 use Rattle.definition.specs.Setting.{Setting}
-use Rattle.definition.specs.declared.state.SavedContext.TheVariants.{Unheld}
-use Rattle.answers.specs.declared.answer.StartAnswer.TheVariants.{Done, Refused}
 use Rattle.definition.specs.State.{World, world, start}
 use Rattle.definition.specs.Calls.{start_tests, start_call}
 use Rattle.definition.specs.Laws.{SameOutside}
@@ -38,15 +36,15 @@ record Started (mem : List ℕ) : Type 0 where
   pub whole : length mem ≡ memory_bytes
   pub begins : start_world mem ≡ world (start mem) mem
 
-started : (mem : List ℕ) → (start_call mem).answer ≡ Done → Started mem
+started : (mem : List ℕ) → (start_call mem).answer ≡ unrefused → Started mem
 unfolding start_call
 started mem h = go (verdict (start_tests mem)) refl
   where
-    go : (v : Verdict) → verdict (start_tests mem) ≡ v → Started mem
-    go taken e = record { whole = eqb-true _ _ (all_hold _ e).0; begins = rw e }
-    go (refused r) e = let f : Refused r ≡ Done = rw e at h in let z : ◌≡◌ {A = ℕ} 0 1 = cc in absurd (omega arith)
+    go : (v : Result (Unit {0}) Refusal) → verdict (start_tests mem) ≡ v → Started mem
+    go (Ok _) e = record { whole = eqb-true _ _ (all_hold _ e).0; begins = rw e }
+    go (Err r) e = let f : Err r ≡ unrefused = rw e at h in let z : ◌≡◌ {A = ℕ} 0 1 = cc in absurd (omega arith)
 
-start_unheld : (mem : List ℕ) → (start mem).context ≡ Unheld
+start_unheld : (mem : List ℕ) → (start mem).context ≡ None
 unfolding start
 start_unheld mem = refl
 

@@ -1,4 +1,5 @@
 -- Two runs that begin in step agree, as far as both go: by induction on a bound of the first run's length. Assumes nothing.
+use Rattle.std.specs.Prelude.{None}
 use mathlib.Core.Path.{◌≡◌, refl, sym, ◌∙◌, ap, subst, subst₂}
 use mathlib.Core.Bool.{Bool, true, false, true≢false}
 use mathlib.Core.List.{List, [], ◌∷◌, ◌++◌}
@@ -14,16 +15,14 @@ use Rattle.layout.specs.Rules.{accepted}
 use Rattle.alu.specs.Status.{gie}
 use Rattle.definition.specs.Setting.{Setting}
 use Rattle.definition.specs.declared.state.Time.{Time}
-use Rattle.definition.specs.declared.state.SavedContext.{SavedContext}
-use Rattle.definition.specs.declared.state.SavedContext.TheVariants.{Unheld, Held}
 use Rattle.definition.specs.Registers.{pc, sr}
 use Rattle.answers.specs.Outcome.{is_reset}
-use Rattle.definition.specs.State.{World, is_held}
+use Rattle.definition.specs.State.{World, is_held, held_visit}
 use Rattle.definition.specs.Interrupt.{Step}
 use Rattle.definition.specs.Run.{Move, world_after, step_of}
 use Rattle.definition.specs.Laws.{SameOutside, SameView}
 use Rattle.definition.proofs.time.PassLaws.{pass_zero}
-use Rattle.definition.proofs.step.StepLaws.{after_reti}
+use Rattle.definition.proofs.step.StepLaws.{after_reti, same_age}
 use Rattle.definition.proofs.separation.ViewLaws.{same_refl, same_sym}
 use Rattle.secrecy.specs.Sighting.{Sighting, sightings}
 use Rattle.secrecy.specs.Visit.{unended, Phase, away, visiting, unended_visit, visits}
@@ -40,9 +39,6 @@ one_more : (T : ℕ) {x y : Sighting} {ss us : List Sighting} {a b : World} → 
     → Agree T a b (x ∷ ss) (y ∷ us)
 one_more T e h = record { as_far = (e, h.as_far); equally_many = λ c d. ap suc (h.equally_many c d) }
 
-same_age : (h : SavedContext) (r i s j : ℕ) → h ≡ Held r i → h ≡ Held s j → i ≡ j
-same_age h r i s j e f = cc
-
 module _ (S : Setting) (fit : accepted S.layout ≡ true) (T : ℕ) where
   -- one run resumes the module
   resume_emerges : (t : Time) (k : ℕ) (base mem : List ℕ) (n start len : ℕ) (s : Step) (vs : List Move) → Steady S s.state
@@ -54,7 +50,7 @@ module _ (S : Setting) (fit : accepted S.layout ≡ true) (T : ℕ) where
       (inside_from S t true mem base n s m x)
 
   -- the visits of a reset where no visit goes on and none starts
-  barred_visits : (w : World) (s : Step) (r : Phase) (ws : List Move) → w.state.context ≡ Unheld → r ≡ away
+  barred_visits : (w : World) (s : Step) (r : Phase) (ws : List Move) → w.state.context ≡ None → r ≡ away
       → outside S.layout (pc w.state.registers) ≡ false → eqb (pc w.state.registers) (entry S.layout) ≡ false
       → is_reset s.outcome ≡ true
       → visits S r (move_of w s ∷ ws) ≡ visits S away ws
@@ -64,7 +60,7 @@ module _ (S : Setting) (fit : accepted S.layout ≡ true) (T : ℕ) where
       (ap (phase_at S w.state) e ∙ phase_away S w.state n)
 
   -- the visits of a step outside with none held
-  open_visits : (w : World) (s : Step) (r x : Phase) (ws : List Move) → w.state.context ≡ Unheld → r ≡ x
+  open_visits : (w : World) (s : Step) (r x : Phase) (ws : List Move) → w.state.context ≡ None → r ≡ x
       → outside S.layout (pc w.state.registers) ≡ true
       → visits S r (move_of w s ∷ ws) ≡ left_end x (move_of w s) ++ visits S away ws
   open_visits w s r x ws h e o =
@@ -105,7 +101,7 @@ module _ (S : Setting) (fit : accepted S.layout ≡ true) (T : ℕ) where
     -- outside, none held: the steps come to where no visit goes on
     open_case : (s u : Step) → Steady S s.state → Steady S u.state → Chain S (world_after s) vs
         → Chain S (world_after u) us
-        → a.state.context ≡ Unheld → b.state.context ≡ Unheld → outside S.layout (pc a.state.registers) ≡ true
+        → a.state.context ≡ None → b.state.context ≡ None → outside S.layout (pc a.state.registers) ≡ true
         → a.state.time.clock ≤ T
         → Premise T (visits S away vs) (visits S away us) → Both S a b s u → Goal s u
     open_case s u f g c d h k o t e (keep x i j n n' r r') =
@@ -155,7 +151,7 @@ module _ (S : Setting) (fit : accepted S.layout ≡ true) (T : ℕ) where
     -- outside, a visit held
     held_case : (s u : Step) → Steady S s.state → Steady S u.state → Chain S (world_after s) vs
         → Chain S (world_after u) us
-        → (r i r' i' start start' k : ℕ) → a.state.context ≡ Held r i → b.state.context ≡ Held r' i'
+        → (r i r' i' start start' k : ℕ) → a.state.context ≡ held_visit r i → b.state.context ≡ held_visit r' i'
         → p ≡ visiting start (k + i) → q ≡ visiting start' (k + i') → outside S.layout (pc a.state.registers) ≡ true
         → a.state.time.clock ≤ T → Premised s u → Both S a b s u → Goal s u
     held_case s u f g c d r i r' i' start start' k ha hb pa pb o t e (keep x h h' n n' z z') =
@@ -173,8 +169,8 @@ module _ (S : Setting) (fit : accepted S.layout ≡ true) (T : ℕ) where
     held_case s u f g c d r i r' i' start start' k ha hb pa pb o t e (resume r₁ i₁ r₂ i₂ x x' z z' w w' m m') =
         seen_case s u o t (seen_resuming S a b y.view s u w w')
         (resume_case s u f g c d i₁ i₂ start start' k
-        (pa ∙ ap (λ (n : ℕ). visiting start (k + n)) (same_age _ _ _ _ _ ha x))
-        (pb ∙ ap (λ (n : ℕ). visiting start' (k + n)) (same_age _ _ _ _ _ hb x'))
+        (pa ∙ ap (λ (n : ℕ). visiting start (k + n)) (same_age _ _ _ _ (sym ha ∙ x)))
+        (pb ∙ ap (λ (n : ℕ). visiting start' (k + n)) (same_age _ _ _ _ (sym hb ∙ x')))
         (held_goes S p (move_of a s) vs (ap is_held ha) z) (held_goes S q (move_of b u) us (ap is_held hb) z') e m m')
 
     -- two resets in code or data
@@ -199,7 +195,7 @@ module _ (S : Setting) (fit : accepted S.layout ≡ true) (T : ℕ) where
       after_b = steady_next S b.state b.memory fit rb gb.steady
 
       -- both enter
-      enter_case : a.state.context ≡ Unheld → b.state.context ≡ Unheld → p ≡ away → q ≡ away
+      enter_case : a.state.context ≡ None → b.state.context ≡ None → p ≡ away → q ≡ away
           → outside S.layout (pc a.state.registers) ≡ false
           → eqb (pc a.state.registers) (entry S.layout) ≡ true → Agreed
       enter_case ha hb pa pb o n =
@@ -229,7 +225,7 @@ module _ (S : Setting) (fit : accepted S.layout ≡ true) (T : ℕ) where
           (omega arith) (λ o'. omega arith))
 
       -- in code or data, no visit: the entry, or a reset
-      shut_case : (x : Bool) → eqb (pc a.state.registers) (entry S.layout) ≡ x → a.state.context ≡ Unheld → b.state.context ≡ Unheld
+      shut_case : (x : Bool) → eqb (pc a.state.registers) (entry S.layout) ≡ x → a.state.context ≡ None → b.state.context ≡ None
           → p ≡ away → q ≡ away → outside S.layout (pc a.state.registers) ≡ false → Agreed
       shut_case true n ha hb pa pb o = enter_case ha hb pa pb o n
       shut_case false n ha hb pa pb o =

@@ -1,4 +1,5 @@
 -- Visits and sightings by a first step, one equation for each branch; a visit's least own cycles; silence above T. Assumes nothing.
+use Rattle.std.specs.Prelude.{Option, None, Some}
 use mathlib.Core.Path.{◌≡◌, refl, sym, ◌∙◌, ap, subst}
 use mathlib.Core.Bool.{Bool, true, false, not, true≢false}
 use mathlib.Core.List.{List, [], ◌∷◌, ◌++◌}
@@ -13,11 +14,10 @@ use Rattle.layout.specs.Rules.{accepted}
 use Rattle.definition.specs.Setting.{Setting}
 use Rattle.definition.specs.declared.state.Time.{Time}
 use Rattle.definition.specs.declared.state.SavedContext.{SavedContext}
-use Rattle.definition.specs.declared.state.SavedContext.TheVariants.{Unheld, Held}
 use Rattle.definition.specs.declared.state.State.{State}
 use Rattle.definition.specs.Registers.{pc}
 use Rattle.answers.specs.Outcome.{is_reset}
-use Rattle.definition.specs.State.{World, is_held}
+use Rattle.definition.specs.State.{World, is_held, held_visit}
 use Rattle.definition.specs.Interrupt.{Step}
 use Rattle.definition.specs.Run.{Move, world_after, step_of}
 use Rattle.definition.specs.Laws.{StepCycles}
@@ -114,37 +114,37 @@ module _ (S : Setting) (p : Phase) (v : Move) (vs : List Move) where
 -- ---- a machine and its phase
 
 -- away: none held, and the previous address is not inside; visiting: one is held, or the previous address is inside
-unfoldable pub InPhase : Setting → SavedContext → ℕ → Phase → Type 0
-InPhase S Unheld previous away = inside S.layout previous ≡ false
-InPhase S Unheld previous (visiting start own) = inside S.layout previous ≡ true
-InPhase S (Held q age) previous away = ⊥
-InPhase S (Held q age) previous (visiting start own) = Unit {0}
+unfoldable pub InPhase : Setting → Option SavedContext → ℕ → Phase → Type 0
+InPhase S None previous away = inside S.layout previous ≡ false
+InPhase S None previous (visiting start own) = inside S.layout previous ≡ true
+InPhase S (Some _) previous away = ⊥
+InPhase S (Some _) previous (visiting start own) = Unit {0}
 
 pub record Good (S : Setting) (m : State) (p : Phase) : Type 0 where
   pub steady : Steady S m
   pub phase : InPhase S m.context m.previous p
 
 module _ (S : Setting) (m : State) (steady : Steady S m) where
-  pub good_away : m.context ≡ Unheld → inside S.layout m.previous ≡ false → Good S m away
+  pub good_away : m.context ≡ None → inside S.layout m.previous ≡ false → Good S m away
   unfolding InPhase
-  good_away h n = record { steady = steady; phase = subst (λ (v : SavedContext). InPhase S v m.previous away) (sym h) n }
+  good_away h n = record { steady = steady; phase = subst (λ (v : Option SavedContext). InPhase S v m.previous away) (sym h) n }
 
-  pub good_held : (start own previous age : ℕ) → m.context ≡ Held previous age → Good S m (visiting start own)
+  pub good_held : (start own previous age : ℕ) → m.context ≡ held_visit previous age → Good S m (visiting start own)
   unfolding InPhase
   good_held start own previous age h =
-      record { steady = steady; phase = subst (λ (v : SavedContext). InPhase S v m.previous (visiting start own)) (sym h) tt }
+      record { steady = steady; phase = subst (λ (v : Option SavedContext). InPhase S v m.previous (visiting start own)) (sym h) tt }
 
-  pub good_inner : (start own : ℕ) → m.context ≡ Unheld → inside S.layout m.previous ≡ true → Good S m (visiting start own)
+  pub good_inner : (start own : ℕ) → m.context ≡ None → inside S.layout m.previous ≡ true → Good S m (visiting start own)
   unfolding InPhase
   good_inner start own h n =
-      record { steady = steady; phase = subst (λ (v : SavedContext). InPhase S v m.previous (visiting start own)) (sym h) n }
+      record { steady = steady; phase = subst (λ (v : Option SavedContext). InPhase S v m.previous (visiting start own)) (sym h) n }
 
 -- no visit goes on: the previous address is not inside
-pub away_previous : (S : Setting) (m : State) (p : Phase) → Good S m p → m.context ≡ Unheld → p ≡ away
+pub away_previous : (S : Setting) (m : State) (p : Phase) → Good S m p → m.context ≡ None → p ≡ away
     → inside S.layout m.previous ≡ false
 unfolding InPhase
 away_previous S m p g h e =
-    subst (λ (v : SavedContext). InPhase S v m.previous away) h (subst (InPhase S m.context m.previous) e g.phase)
+    subst (λ (v : Option SavedContext). InPhase S v m.previous away) h (subst (InPhase S m.context m.previous) e g.phase)
 
 module _ (S : Setting) (m : State) where
   pub phase_held : (p : Phase) → is_held m.context ≡ true → phase_at S m p ≡ p
@@ -166,16 +166,16 @@ module _ (S : Setting) (m : State) where
       → phase_at S m (visiting start own) ≡ visiting start own
   phase_visiting start own h = go m.context refl h
     where
-      go : (v : SavedContext) → m.context ≡ v → InPhase S v m.previous (visiting start own)
+      go : (v : Option SavedContext) → m.context ≡ v → InPhase S v m.previous (visiting start own)
           → phase_at S m (visiting start own) ≡ visiting start own
-      go Unheld e i = unfold InPhase in phase_inner _ i
-      go (Held q a) e i = phase_held _ (ap is_held e)
+      go None e i = unfold InPhase in phase_inner _ i
+      go (Some _) e i = phase_held _ (ap is_held e)
 
   -- the entry starts one
-  pub phase_entry : (p : Phase) → m.context ≡ Unheld → outside S.layout (pc m.registers) ≡ false → eqb (pc m.registers) (entry S.layout) ≡ true
+  pub phase_entry : (p : Phase) → m.context ≡ None → outside S.layout (pc m.registers) ≡ false → eqb (pc m.registers) (entry S.layout) ≡ true
       → inside S.layout m.previous ≡ false → phase_at S m p ≡ visiting m.time.clock 0
   unfolding phase_at
-  phase_entry p h o e n = when_false _ _ _ (ap is_held h) ∙ when_false _ _ _ o ∙ when_true _ _ _ (every _ (ap (λ (v : SavedContext). not (is_held v)) h, (e, (ap not n, tt))))
+  phase_entry p h o e n = when_false _ _ _ (ap is_held h) ∙ when_false _ _ _ o ∙ when_true _ _ _ (every _ (ap (λ (v : Option SavedContext). not (is_held v)) h, (e, (ap not n, tt))))
 
   -- elsewhere none starts
   pub phase_away : eqb (pc m.registers) (entry S.layout) ≡ false → phase_at S m away ≡ away
@@ -191,7 +191,7 @@ own_judged : (S : Setting) (w : World) (s : Step) → own_cycles S (move_of w s)
 own_judged S w s = refl
 
 module _ (S : Setting) (w : World) (s : Step) (p : Phase) (vs : List Move) (start own n : ℕ)
-    (h : w.state.context ≡ Unheld) (o : outside S.layout (pc w.state.registers) ≡ false)
+    (h : w.state.context ≡ None) (o : outside S.layout (pc w.state.registers) ≡ false)
     (e : phase_at S w.state p ≡ visiting start own) (f : judged_cycles (judged S w) ≡ n) where
   pub reset_visit : is_reset s.outcome ≡ true
       → visits S p (move_of w s ∷ vs)
@@ -249,7 +249,7 @@ module _ (S : Setting) where
   inside_outcome t g mem n s (broken_into stamp on x) = x.outcome
 
   module _ (w : World) (vs : List Move) (start own : ℕ) (s : Step) (steady : Steady S s.state) where
-    held_course : (previous age : ℕ) → w.state.context ≡ Held previous age → Service S w.state w.memory s
+    held_course : (previous age : ℕ) → w.state.context ≡ held_visit previous age → Service S w.state w.memory s
         → Course S w (visiting start own) vs start own s
     unfolding Least
     held_course previous age e (kept h n r x) =
@@ -258,12 +258,12 @@ module _ (S : Setting) where
     held_course previous age e (resuming q a h r x f g) =
         goes own (omega arith) (held_goes S _ _ vs (ap is_held e) r) (inside_good _ _ _ _ start own s steady g)
 
-    left_course : w.state.context ≡ Unheld → outside S.layout (pc w.state.registers) ≡ true
+    left_course : w.state.context ≡ None → outside S.layout (pc w.state.registers) ≡ true
         → Course S w (visiting start own) vs start own s
     unfolding Least
     left_course e o = closes _ (leaves S _ (move_of w s) vs (ap is_held e) o) (omega arith)
 
-    inner_course : (p : Phase) → w.state.context ≡ Unheld → outside S.layout (pc w.state.registers) ≡ false
+    inner_course : (p : Phase) → w.state.context ≡ None → outside S.layout (pc w.state.registers) ≡ false
         → phase_at S w.state p ≡ visiting start own → Inner S w.state w.memory s → Course S w p vs start own s
     unfolding Least
     inner_course p h o e (failed f x) = closes _ (reset_visit S w s p vs start own 4 h o e f x.outcome) (omega arith)
@@ -279,15 +279,15 @@ module _ (S : Setting) where
         after : Steady S (step_of S w).state
         after = steady_next S w.state w.memory fit r g.steady
 
-        go : (h : SavedContext) → w.state.context ≡ h → (b : Bool) → outside S.layout (pc w.state.registers) ≡ b
+        go : (h : Option SavedContext) → w.state.context ≡ h → (b : Bool) → outside S.layout (pc w.state.registers) ≡ b
             → Course S w p vs start own (step_of S w)
-        go (Held q a) h b o =
+        go (Some visit) h b o =
             subst (λ (x : Phase). Course S w x vs start own (step_of S w)) (sym e ∙ phase_held S w.state p (ap is_held h))
-            (held_course w vs start own _ after q a h (held_step S fit w.state w.memory g.steady r (ap is_held h)))
-        go Unheld h true o =
+            (held_course w vs start own _ after visit.previous visit.age h (held_step S fit w.state w.memory g.steady r (ap is_held h)))
+        go None h true o =
             subst (λ (x : Phase). Course S w x vs start own (step_of S w)) (sym e ∙ phase_outside S w.state p o)
             (left_course w vs start own _ after h o)
-        go Unheld h false o =
+        go None h false o =
             inner_course w vs start own _ after p h o e (inner_step S fit w.state w.memory g.steady r h o)
 
     -- a visit ends with no fewer own cycles than it has

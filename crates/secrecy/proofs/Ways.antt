@@ -1,4 +1,5 @@
 -- How one step goes, seen from the visits, as data types of few cases. Assumes nothing.
+use Rattle.std.specs.Prelude.{None, Some, Ok}
 use mathlib.Core.Path.{◌≡◌, refl, sym, ◌∙◌, ap}
 use mathlib.Core.Bool.{Bool, true, false, true≢false}
 use mathlib.Core.List.{List}
@@ -17,17 +18,14 @@ use Rattle.layout.proofs.LayoutLaws.{vector_outside}
 use Rattle.layout.proofs.AccessLaws.{entered_at_entry, data_not_executed}
 use Rattle.alu.specs.Status.{gie}
 use Rattle.definition.specs.Setting.{Setting}
-use Rattle.definition.specs.declared.state.Stamp.TheVariants.{Never, At}
 use Rattle.definition.specs.declared.state.Time.{Time}
-use Rattle.definition.specs.declared.state.SavedContext.TheVariants.{Unheld, Held}
 use Rattle.definition.specs.declared.state.State.{State}
 use Rattle.answers.specs.declared.answer.Cause.{Cause}
 use Rattle.answers.specs.declared.answer.Outcome.{Outcome}
 use Rattle.definition.specs.Registers.{pc, sr, cleared}
 use Rattle.answers.specs.Outcome.{is_reset}
 use Rattle.definition.specs.Time.{pass, emptied}
-use Rattle.definition.specs.State.{vector, is_held, reset_address, framed, start, world}
-use Rattle.definition.specs.declared.judge.Judged.TheVariants.{Acts}
+use Rattle.definition.specs.State.{vector, is_held, reset_address, framed, start, world, held_visit}
 use Rattle.definition.specs.Interrupt.{Step, gives, age_of, due, reset, plain, padded, chained, back}
 use Rattle.definition.specs.Step.{executed, step, judged}
 use Rattle.definition.specs.Laws.{FramedAtStart, FrameKept, NothingDue, NothingDueAtStart, NothingDueKept, PaddedByStamp, SameOutside, is_resuming, Confined, InsideConfined}
@@ -73,7 +71,7 @@ module _ (S : Setting) where
   -- it has continued: none is held, GIE is g, and outside bytes are as they were
   pub record Onward (t : Time) (g : Bool) (mem : List ℕ) (n : ℕ) (s : Step) : Type 0 where
     pub time : s.state.time ≡ pass S n t
-    pub context : s.state.context ≡ Unheld
+    pub context : s.state.context ≡ None
     pub running : s.state.halted ≡ false
     pub enabled : gie (sr s.state.registers) ≡ g
     pub previous : inside S.layout s.state.previous ≡ true
@@ -82,12 +80,12 @@ module _ (S : Setting) where
 
   -- a request is found in the slot and is served, at a time that its stamp alone decides
   pub record BrokenInto (t : Time) (mem : List ℕ) (n stamp : ℕ) (s : Step) : Type 0 where
-    pub slot : (pass S n t).slot ≡ At stamp
+    pub slot : (pass S n t).slot ≡ Some stamp
     pub after : t.clock < stamp
     pub time : s.state.time ≡ pass S 6 (emptied (pass S (stamp + 6 - t.clock) t))
     pub previous : ℕ
     pub age : ℕ
-    pub context : s.state.context ≡ Held previous age
+    pub context : s.state.context ≡ held_visit previous age
     pub aged : stamp + age ≡ t.clock + n
     pub registers : s.state.registers ≡ cleared S.layout.service
     pub running : s.state.halted ≡ false
@@ -101,19 +99,19 @@ module _ (S : Setting) where
 
   -- the padded check of a machine in the module, n cycles on from t
   module _ (t : Time) (g : Bool) (mem : List ℕ) (n : ℕ) (x : State) (mem' : List ℕ) (short : n ≤ 6)
-      (empty : g ≡ true → t.slot ≡ Never) (time : x.time ≡ pass S n t)
+      (empty : g ≡ true → t.slot ≡ None) (time : x.time ≡ pass S n t)
       (enabled : gie (sr x.registers) ≡ g) (memory : SameOutside S mem mem') where
-    check_continues : (o : Outcome) → is_reset o ≡ false → x.context ≡ Unheld → x.halted ≡ false → inside S.layout x.previous ≡ true
+    check_continues : (o : Outcome) → is_reset o ≡ false → x.context ≡ None → x.halted ≡ false → inside S.layout x.previous ≡ true
         → InsideStep t g mem n (gives x mem' o)
     check_continues o r v h p =
         continued (record { time = time; context = v; running = h; enabled = enabled; previous = p; memory = memory; outcome = r })
 
-    check_breaks_in : (stamp : ℕ) → due x ≡ At stamp → InsideStep t g mem n (padded S stamp x mem')
+    check_breaks_in : (stamp : ℕ) → due x ≡ Some stamp → InsideStep t g mem n (padded S stamp x mem')
     unfolding padded age_of PaddedByStamp
     check_breaks_in stamp d =
         let e = due_at x stamp d in
         let on : g ≡ true = sym enabled ∙ e.0 in
-        let filled : (pass S n t).slot ≡ At stamp = ap (λ (z : Time). z.slot) (sym time) ∙ e.1 in
+        let filled : (pass S n t).slot ≡ Some stamp = ap (λ (z : Time). z.slot) (sym time) ∙ e.1 in
         let w = pass_filled S n t stamp (empty on) filled in
         let c : x.time.clock ≡ t.clock + n = ap (λ (z : Time). z.clock) time ∙ pass_clock S n t in
         broken_into stamp on
@@ -138,7 +136,7 @@ module _ (S : Setting) where
     pub registers : s.state.registers ≡ cleared (reset_address mem)
     pub previous : inside S.layout s.state.previous ≡ false
     pub time : s.state.time ≡ emptied (pass S 4 m.time)
-    pub context : s.state.context ≡ Unheld
+    pub context : s.state.context ≡ None
     pub running : s.state.halted ≡ false
     pub memory : s.memory ≡ mem
     pub outcome : is_reset s.outcome ≡ true
@@ -148,10 +146,10 @@ module _ (S : Setting) where
   pub data Service (m : State) (mem : List ℕ) (s : Step) : Type 0 where
     kept : s.state.context ≡ m.context → inside S.layout s.state.previous ≡ false → is_reset s.outcome ≡ false
         → is_resuming s.outcome ≡ false → Service m mem s
-    was_reset : s.state.context ≡ Unheld → inside S.layout s.state.previous ≡ false → is_reset s.outcome ≡ true
+    was_reset : s.state.context ≡ None → inside S.layout s.state.previous ≡ false → is_reset s.outcome ≡ true
         → is_resuming s.outcome ≡ false → Service m mem s
-    resuming : (previous age : ℕ) → m.context ≡ Held previous age → is_reset s.outcome ≡ false → is_resuming s.outcome ≡ true
-        → (after_reti S m).slot ≡ Never → InsideStep (after_reti S m) true mem age s → Service m mem s
+    resuming : (previous age : ℕ) → m.context ≡ held_visit previous age → is_reset s.outcome ≡ false → is_resuming s.outcome ≡ true
+        → (after_reti S m).slot ≡ None → InsideStep (after_reti S m) true mem age s → Service m mem s
 
   -- a step in code or data, none being held: a reset, or an instruction inside
   pub data Inner (m : State) (mem : List ℕ) (s : Step) : Type 0 where
@@ -171,7 +169,7 @@ neither Data o c = refl
 
 module _ (S : Setting) (fit : accepted S.layout ≡ true) (m : State) (mem : List ℕ) where
   -- in code or data only code
-  pub acting_inside : (i : Instruction) → outside S.layout (pc m.registers) ≡ false → judged S (world m mem) ≡ Acts i
+  pub acting_inside : (i : Instruction) → outside S.layout (pc m.registers) ≡ false → judged S (world m mem) ≡ Ok i
       → inside S.layout (pc m.registers) ≡ true
   unfolding inside outside
   acting_inside i o e =
@@ -179,22 +177,22 @@ module _ (S : Setting) (fit : accepted S.layout ≡ true) (m : State) (mem : Lis
       (λ h. absurd (true≢false (sym (acts_executable S.layout _ _ mem _ i e) ∙ data_not_executed S.layout m.previous _ (neither _ o h))))
 
   -- outside, or while a visit is held, nothing inside
-  pub acting_outside : outside S.layout (pc m.registers) ≡ true → (i : Instruction) → judged S (world m mem) ≡ Acts i
+  pub acting_outside : outside S.layout (pc m.registers) ≡ true → (i : Instruction) → judged S (world m mem) ≡ Ok i
       → inside S.layout (pc m.registers) ≡ false
   acting_outside o i e = outside_not_inside S.layout _ o
 
-  pub acting_held : is_held m.context ≡ true → (i : Instruction) → judged S (world m mem) ≡ Acts i → inside S.layout (pc m.registers) ≡ false
+  pub acting_held : is_held m.context ≡ true → (i : Instruction) → judged S (world m mem) ≡ Ok i → inside S.layout (pc m.registers) ≡ false
   acting_held h i e =
       cases (inside S.layout (pc m.registers))
       (λ n. absurd (true≢false (sym h ∙ acts_unheld S.layout _ _ mem _ i e n))) (λ n. n)
 
   -- while a visit is held nothing in code or data acts
-  none_held : is_held m.context ≡ true → outside S.layout (pc m.registers) ≡ false → (i : Instruction) → judged S (world m mem) ≡ Acts i → ⊥
+  none_held : is_held m.context ≡ true → outside S.layout (pc m.registers) ≡ false → (i : Instruction) → judged S (world m mem) ≡ Ok i → ⊥
   none_held h o i e = true≢false (sym (acting_inside i o e) ∙ acting_held h i e)
 
   -- from elsewhere nothing in code or data acts but the entry
   none_away : inside S.layout m.previous ≡ false → outside S.layout (pc m.registers) ≡ false → (pc m.registers ≡ entry S.layout → ⊥)
-      → (i : Instruction) → judged S (world m mem) ≡ Acts i → ⊥
+      → (i : Instruction) → judged S (world m mem) ≡ Ok i → ⊥
   none_away n o not_entry i e = not_entry (entered_at_entry S.layout _ _ n o (acts_executable S.layout _ _ mem _ i e))
 
   -- ---- the steps
@@ -212,7 +210,7 @@ module _ (S : Setting) (fit : accepted S.layout ≡ true) (m : State) (mem : Lis
         outcome = refl;
       }
 
-  resets_at_once : ((i : Instruction) → judged S (world m mem) ≡ Acts i → ⊥) → (s : Step) → Way S m mem s → ResetAtOnce S m mem s
+  resets_at_once : ((i : Instruction) → judged S (world m mem) ≡ Ok i → ⊥) → (s : Step) → Way S m mem s → ResetAtOnce S m mem s
   resets_at_once none s (resets c e) = reset_at_once c
   resets_at_once none s (halts i e h) = absurd (none i e)
   resets_at_once none s (runs i r d) = absurd (none i r.acting)
@@ -228,7 +226,7 @@ module _ (S : Setting) (fit : accepted S.layout ≡ true) (m : State) (mem : Lis
       choose (Service S m mem) _ (λ e. kept h (vector_free S fit) refl refl) (λ e. was_reset refl (vector_free S fit) refl refl)
 
   module _ (steady : Steady S m)
-      (elsewhere : (i : Instruction) → judged S (world m mem) ≡ Acts i → inside S.layout (pc m.registers) ≡ false) where
+      (elsewhere : (i : Instruction) → judged S (world m mem) ≡ Ok i → inside S.layout (pc m.registers) ≡ false) where
     service_of : (s : Step) → Way S m mem s → Service S m mem s
     unfolding reset executed chained padded back
     service_of s (resets c e) = was_reset refl (vector_free S fit) refl refl
@@ -248,16 +246,16 @@ module _ (S : Setting) (fit : accepted S.layout ≡ true) (m : State) (mem : Lis
         (check_breaks_in S (after_reti S m) true mem a (after_return S m p a) mem
         h.age_bound (λ _. e) refl h.gie_set (same_refl S mem) u d)
 
-  module _ (steady : Steady S m) (running : m.halted ≡ false) (free : m.context ≡ Unheld)
+  module _ (steady : Steady S m) (running : m.halted ≡ false) (free : m.context ≡ None)
       (o : outside S.layout (pc m.registers) ≡ false) where
-    confined : (i : Instruction) → judged S (world m mem) ≡ Acts i → Confined S m mem i
+    confined : (i : Instruction) → judged S (world m mem) ≡ Ok i → Confined S m mem i
     unfolding InsideConfined
     confined i e = inside_confined S m mem i fit (acting_inside i o e) free e
 
     few : (i : Instruction) → cycles_of i ≤ 6
     few i = let c = (cycles_range i).1 in omega arith
 
-    not_held : {A : Type 0} (previous age : ℕ) → m.context ≡ Held previous age → A
+    not_held : {A : Type 0} (previous age : ℕ) → m.context ≡ held_visit previous age → A
     not_held previous age h = absurd (true≢false (sym (ap is_held h) ∙ ap is_held free))
 
     inner_of : (s : Step) → Way S m mem s → Inner S m mem s

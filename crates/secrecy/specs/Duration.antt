@@ -1,5 +1,6 @@
 -- How long a visit lasts: its own instruction cycles, and what interrupts add; and when a request is served.
-use Rattle.std.specs.Prelude.{ℕ, ◌+◌, ◌≡◌, true, List, [], ◌∷◌, ◌++◌}
+use Rattle.std.specs.Prelude.{ℕ, ◌+◌, ◌≡◌, true, List, [], ◌∷◌, ◌++◌, None, Some, Ok}
+use Rattle.base.specs.Verdict.{unrefused}
 use Rattle.base.specs.Test.{when◌then◌else◌}
 use Rattle.isa.specs.declared.instruction.Instruction.{Instruction}
 use Rattle.isa.specs.declared.instruction.Instruction.TheVariants.{Reti}
@@ -7,16 +8,12 @@ use Rattle.isa.specs.Cycles.{cycles_of}
 use Rattle.layout.specs.Sections.{inside}
 use Rattle.alu.specs.Status.{gie}
 use Rattle.definition.specs.Setting.{Setting}
-use Rattle.definition.specs.declared.state.Stamp.TheVariants.{Never, At}
-use Rattle.definition.specs.declared.state.SavedContext.TheVariants.{Held}
 use Rattle.answers.specs.declared.answer.Outcome.{Outcome}
 use Rattle.answers.specs.declared.answer.Outcome.TheVariants.{Ran, Plain, Padded, Chained, Back, Reset, Halted}
-use Rattle.answers.specs.declared.answer.StartAnswer.TheVariants.{Done}
 use Rattle.definition.specs.Registers.{pc, sr}
 use Rattle.answers.specs.Outcome.{is_reset}
 use Rattle.definition.specs.Time.{pass}
-use Rattle.definition.specs.State.{is_held}
-use Rattle.definition.specs.declared.judge.Judged.TheVariants.{Acts}
+use Rattle.definition.specs.State.{is_held, held_visit}
 use Rattle.definition.specs.Step.{executed, judged}
 use Rattle.definition.specs.Run.{Move}
 use Rattle.definition.specs.Calls.{start_call}
@@ -61,7 +58,7 @@ meanwhile S (v ∷ vs) =
 unfoldable pub Duration : Type 0
 Duration =
     (S : Setting) (mem : List ℕ) (calls : List Call) (earlier : List Move) (v : Move) (later : List Move) (e : VisitEnd)
-    → (start_call mem).answer ≡ Done → run_of S (start_world mem) calls ≡ earlier ++ (v ∷ later)
+    → (start_call mem).answer ≡ unrefused → run_of S (start_world mem) calls ≡ earlier ++ (v ∷ later)
     → starts_visit S v.before.state ≡ true → fate_at (visits S away (v ∷ later)) 0 ≡ ended e
     → e.clock ≡ v.before.state.time.clock + e.own + meanwhile S (v ∷ later)
 
@@ -74,10 +71,10 @@ Served s v = (v.after.outcome ≡ Padded) × (v.after.state.time.clock ≡ s + 1
 unfoldable pub Twelve : Type 0
 Twelve =
     (S : Setting) (mem : List ℕ) (calls : List Call) (earlier : List Move) (v : Move) (later : List Move) (s : ℕ)
-    → (start_call mem).answer ≡ Done → run_of S (start_world mem) calls ≡ earlier ++ (v ∷ later)
-    → ((i : Instruction) → inside S.layout (pc v.before.state.registers) ≡ true → judged S v.before ≡ Acts i
+    → (start_call mem).answer ≡ unrefused → run_of S (start_world mem) calls ≡ earlier ++ (v ∷ later)
+    → ((i : Instruction) → inside S.layout (pc v.before.state.registers) ≡ true → judged S v.before ≡ Ok i
     → gie (sr v.before.state.registers) ≡ true
-    → (executed S v.before.state v.before.memory i).time.slot ≡ At s → Served s v)
-    × ((previous age : ℕ) → v.before.state.context ≡ Held previous age → judged S v.before ≡ Acts Reti
-    → (pass S (cycles_of Reti) v.before.state.time).slot ≡ Never
-    → (pass S age (pass S (cycles_of Reti) v.before.state.time)).slot ≡ At s → Served s v)
+    → (executed S v.before.state v.before.memory i).time.slot ≡ Some s → Served s v)
+    × ((previous age : ℕ) → v.before.state.context ≡ held_visit previous age → judged S v.before ≡ Ok Reti
+    → (pass S (cycles_of Reti) v.before.state.time).slot ≡ None
+    → (pass S age (pass S (cycles_of Reti) v.before.state.time)).slot ≡ Some s → Served s v)

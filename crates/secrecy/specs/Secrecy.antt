@@ -1,9 +1,9 @@
 -- Demand 3, as one statement over two whole lists of calls.
 use Rattle.std.specs.Prelude.{ℕ, ◌≡◌, Bool, true, List, [], ◌∷◌, ltb, length}
+use Rattle.base.specs.Verdict.{unrefused}
 use Rattle.base.specs.Test.{any}
 use Rattle.layout.specs.Sections.{outside}
 use Rattle.definition.specs.Setting.{Setting}
-use Rattle.answers.specs.declared.answer.StartAnswer.TheVariants.{Done}
 use Rattle.definition.specs.Memory.{byte_at}
 use Rattle.definition.specs.State.{World, world}
 use Rattle.definition.specs.Run.{Move}
@@ -55,7 +55,7 @@ pub record Agree (T : ℕ) (end_a end_b : World) (xs ys : List Sighting) : Type 
 unfoldable pub SecrecyUnder : (Setting → ℕ → List Move → List Move → Type 0) → Type 0
 SecrecyUnder Premised =
     (S : Setting) (mem_a mem_b : List ℕ) (calls_a calls_b : List Call) (T : ℕ)
-    → (start_call mem_a).answer ≡ Done → (start_call mem_b).answer ≡ Done
+    → (start_call mem_a).answer ≡ unrefused → (start_call mem_b).answer ≡ unrefused
     → ((a : ℕ) → outside S.layout a ≡ true → byte_at mem_a a ≡ byte_at mem_b a)
     → Premised S T (run_of S (start_world mem_a) calls_a) (run_of S (start_world mem_b) calls_b)
     → Agree T (left_by_all S (start_world mem_a) calls_a) (left_by_all S (start_world mem_b) calls_b)

@@ -1,9 +1,8 @@
 -- What outside code sees of a run.
-use Rattle.std.specs.Prelude.{ℕ, Bool, List, [], ◌∷◌, leb}
+use Rattle.std.specs.Prelude.{ℕ, Bool, List, [], ◌∷◌, leb, Option}
 use Rattle.base.specs.Test.{when◌then◌else◌, all}
 use Rattle.layout.specs.Sections.{outside}
 use Rattle.definition.specs.Setting.{Setting}
-use Rattle.definition.specs.declared.state.Stamp.{Stamp}
 use Rattle.answers.specs.declared.answer.Outcome.{Outcome}
 use Rattle.answers.specs.declared.answer.Outcome.TheVariants.{Ran, Plain, Padded, Chained, Back, Reset, Halted}
 use Rattle.definition.specs.Memory.{byte_at}
@@ -16,8 +15,8 @@ pub record View : Type 0 where
   pub clock : ℕ
   pub registers : List ℕ
   pub bytes : ℕ → ℕ
-  pub slot : Stamp
-  pub alarm : Stamp
+  pub slot : Option ℕ
+  pub alarm : Option ℕ
 
 -- the outside bytes; 0 stands for the module's
 unfoldable pub outside_bytes : Setting → List ℕ → ℕ → ℕ

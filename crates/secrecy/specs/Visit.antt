@@ -1,5 +1,7 @@
 -- The visits of a run, in the order of their starts, each with its end if it has one.
-use Rattle.std.specs.Prelude.{ℕ, zero, suc, ◌+◌, Bool, false, not, List, [], ◌∷◌, ◌++◌, leb, eqb}
+use Rattle.answers.specs.declared.answer.Cause.{Cause}
+use Rattle.isa.specs.declared.instruction.Instruction.{Instruction}
+use Rattle.std.specs.Prelude.{ℕ, zero, suc, ◌+◌, Bool, false, not, List, [], ◌∷◌, ◌++◌, leb, eqb, Result, Ok, Err}
 use Rattle.base.specs.Test.{when◌then◌else◌, all}
 use Rattle.isa.specs.Cycles.{cycles_of}
 use Rattle.layout.specs.Sections.{entry, inside}
@@ -8,8 +10,6 @@ use Rattle.definition.specs.declared.state.State.{State}
 use Rattle.definition.specs.Registers.{pc}
 use Rattle.answers.specs.Outcome.{is_reset}
 use Rattle.definition.specs.State.{is_held}
-use Rattle.definition.specs.declared.judge.Judged.{Judged}
-use Rattle.definition.specs.declared.judge.Judged.TheVariants.{Faulty, Acts}
 use Rattle.definition.specs.Step.{judged}
 use Rattle.definition.specs.Run.{Move}
 use Rattle.secrecy.specs.Sighting.{begins_outside}
@@ -41,9 +41,9 @@ pub data Phase : Type 0 where
   visiting : ℕ → ℕ → Phase
 
 -- what the judgement of a step says of its own cycles: the instruction's, waits left out; 4 for a reset
-abbrev pub judged_cycles : Judged → ℕ
-judged_cycles (Faulty c) = 4
-judged_cycles (Acts i) = cycles_of i
+abbrev pub judged_cycles : Result Instruction Cause → ℕ
+judged_cycles (Err c) = 4
+judged_cycles (Ok i) = cycles_of i
 
 -- the own cycles of a step
 abbrev pub own_cycles : Setting → Move → ℕ

@@ -5,6 +5,7 @@ use mathlib.Core.List.{List, [], ◌∷◌}
 use Prim.Native.Nat.{ℕ}
 use lib.Dec.{eqb}
 use lib.ListN.{length, length-replicate}
+use Rattle.base.specs.Verdict.{unrefused}
 use Rattle.base.specs.Limits.{memory_bytes}
 use Rattle.base.specs.FirstFailure.{first_failure}
 use Rattle.base.specs.Test.{when◌then◌else◌}
@@ -13,7 +14,6 @@ use Rattle.base.proofs.Tests.{when_true, cases, when_false}
 use Rattle.layout.specs.declared.sections.Layout.{Layout}
 use Rattle.layout.specs.Sections.{outside}
 use Rattle.layout.specs.Rules.{accepted}
-use Rattle.answers.specs.declared.answer.StartAnswer.TheVariants.{Done}
 use Rattle.definition.specs.Memory.{byte_at, put_word}
 use Rattle.definition.specs.Calls.{start_call}
 use Rattle.definition.proofs.instruction.MemoryLaws.{put_length, put_side}
@@ -29,7 +29,7 @@ unfolding memory_of
 whole outer inner = loaded_length _ inner ∙ loaded_length _ outer ∙ length-replicate {A = ℕ} memory_bytes 0
 
 -- start takes a memory so loaded
-pub starts : (outer inner : List MLine) → (start_call (memory_of outer inner)).answer ≡ Done
+pub starts : (outer inner : List MLine) → (start_call (memory_of outer inner)).answer ≡ unrefused
 unfolding start_call first_failure
 starts outer inner = rw (when_true _ _ _ (ap (λ (n : ℕ). eqb n memory_bytes) (whole outer inner)))
 

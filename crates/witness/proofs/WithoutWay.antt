@@ -1,10 +1,9 @@
 -- The way is needed: one module leaves for the reset vector's address, one resets, and a request is pending. Assumes nothing.
+use Rattle.std.specs.Prelude.{Option, None, Some}
 use mathlib.Core.Path.{◌≡◌, refl}
 use mathlib.Core.List.{[], ◌∷◌}
 use Prim.Native.Nat.{ℕ}
 use Rattle.definition.specs.Setting.{setting_of}
-use Rattle.definition.specs.declared.state.Stamp.{Stamp}
-use Rattle.definition.specs.declared.state.Stamp.TheVariants.{Never, At}
 use Rattle.secrecy.specs.Sighting.{View}
 use Rattle.secrecy.specs.Visit.{Way, leaving, own_reset, VisitEnd, ended, own_cycles}
 use Rattle.witness.specs.Lines.{M}
@@ -24,9 +23,9 @@ pair =
     }
 
 -- the stamp in the slot, 0 where it is empty
-abbrev stamp_in : Stamp → ℕ
-stamp_in Never = 0
-stamp_in (At s) = s
+abbrev stamp_in : Option ℕ → ℕ
+stamp_in None = 0
+stamp_in (Some s) = s
 
 -- the slot before each step outside
 abbrev slot_seen : View → ℕ

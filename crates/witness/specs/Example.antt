@@ -1,11 +1,11 @@
 -- Two machines of which the theorem speaks: their modules differ, a request breaks into them at different instructions, and outside
 -- code sees the same.
 use Rattle.std.specs.Prelude.{ℕ, ◌≡◌, true, List, [], ◌∷◌, ◌++◌, length}
+use Rattle.base.specs.Verdict.{unrefused}
 use Rattle.definition.specs.Setting.{Setting, setting_of}
 use Rattle.layout.specs.declared.sections.Layout.{Layout}
 use Rattle.layout.specs.Sections.{outside}
 use Rattle.answers.specs.declared.answer.Outcome.TheVariants.{Ran, Padded, Back, Halted}
-use Rattle.answers.specs.declared.answer.StartAnswer.TheVariants.{Done}
 use Rattle.definition.specs.Memory.{byte_at}
 use Rattle.definition.specs.Run.{Move}
 use Rattle.definition.specs.Calls.{start_call}
@@ -68,8 +68,8 @@ lines_later =
 -- they differ in the module only, the premise holds of them, they are broken into at different instructions (the one goes back to
 -- 0042 at 24, the other to 0044 at 25), and each has eleven sightings, a resumption among them
 pub record NotVacuous : Type 0 where
-  pub starts_a : (start_call memory_a).answer ≡ Done
-  pub starts_b : (start_call memory_b).answer ≡ Done
+  pub starts_a : (start_call memory_a).answer ≡ unrefused
+  pub starts_b : (start_call memory_b).answer ≡ unrefused
   pub same : (a : ℕ) → outside example_layout a ≡ true → byte_at memory_a a ≡ byte_at memory_b a
   pub run_a : lines_of (example_run memory_a) ≡ lines_before ++ (line Back 24 0x0042 8 0 ∷ line Ran 25 0x0044 8 0 ∷ lines_later)
   pub run_b : lines_of (example_run memory_b) ≡ lines_before ++ (line Back 25 0x0044 8 0 ∷ lines_later)

@@ -1,30 +1,20 @@
 -- What an instruction that acts has passed: none of the eight causes holds. Assumes nothing.
-use mathlib.Core.Path.{◌≡◌, refl, sym, ◌∙◌, subst}
-use mathlib.Core.Bool.{Bool, true, false, not, true≢false}
-use mathlib.Core.List.{List, [], ◌∷◌}
-use Prim.Native.Nat.{ℕ}
-use borrow.Author.Tests.{not-false}
+use Rattle.answers.specs.declared.answer.Cause.{Cause}
+use Rattle.std.proofs.Common.{◌≡◌, refl, sym, ◌∙◌, subst, Bool, true, false, true≢false, List, [], ◌∷◌, ℕ, Option, None, Some, Result, Ok, Err}
+use Rattle.std.proofs.lemmas.Bool.{not-false}
+use Rattle.base.specs.declared.refusal.Refusal.{Refusal}
 use Rattle.base.specs.Test.{when◌then◌else◌, all}
-use Rattle.base.specs.Word.{drop_bit0, sum16}
+use Rattle.base.specs.Word.{drop_bit0}
 use Rattle.base.proofs.Tests.{cases, each, when_true, when_false, choose}
-use Rattle.rows.specs.declared.row.Row.{Row}
 use Rattle.rows.specs.declared.read.Begun.{Begun}
-use Rattle.rows.specs.declared.read.Begun.TheVariants.{Nothing, Found}
-use Rattle.rows.specs.Words.{two_words}
 use Rattle.isa.specs.declared.instruction.Instruction.{Instruction}
-use Rattle.isa.specs.declared.read.Reading.{Reading}
-use Rattle.isa.specs.declared.read.Reading.TheVariants.{Decoded, Refused}
-use Rattle.isa.specs.Words.{finished}
+use Rattle.isa.specs.declared.read.Decoded.{Decoded}
 use Rattle.layout.specs.declared.sections.Layout.{Layout}
 use Rattle.layout.specs.declared.access.Right.{Right}
 use Rattle.layout.specs.declared.access.Right.TheVariants.{Execute as execute, Read as read, Write as write}
-use Rattle.layout.specs.Sections.{inside, same_side}
+use Rattle.layout.specs.Sections.{inside}
 use Rattle.layout.specs.Access.{may}
-use Rattle.answers.specs.declared.answer.Cause.TheVariants.{SecondSide}
-use Rattle.definition.specs.Memory.{word_at}
 use Rattle.definition.specs.Registers.{pc}
-use Rattle.definition.specs.declared.judge.Judged.{Judged}
-use Rattle.definition.specs.declared.judge.Judged.TheVariants.{Faulty, Acts}
 use Rattle.definition.specs.Judge.{reads, writes, all_may, privileged, is_reti, judge_act, judge_words, judge_second, judge_first, judge}
 use Rattle.definition.proofs.instruction.InstructionLaws.{is_reti_lem}
 
@@ -51,27 +41,6 @@ unfolding all_may
 each_may L from right a addresses e =
     cases (may L from right (drop_bit0 a)) (λ h. (h, sym (when_true _ _ _ h) ∙ e)) (λ h. absurd (true≢false (sym e ∙ when_false _ _ _ h)))
 
--- cause 4 as one test, and the second word, or 0 where there is none
-one_test : (t s : Bool) (f : ℕ → Judged) (j : Judged) (w : ℕ)
-    → (when t then when s then f w else j else f 0) ≡ (when all (t ∷ not s ∷ []) then j else f (when t then w else 0))
-unfolding all when◌then◌else◌
-one_test true true f j w = refl
-one_test true false f j w = refl
-one_test false s f j w = refl
-
-pub second_together : (L : Layout) (held : Bool) (rs mem : List ℕ) (b : Begun)
-    → judge_second L held rs mem b
-    ≡ (when all (two_words b ∷ not (same_side L (pc rs) (sum16 (pc rs) 2)) ∷ []) then Faulty SecondSide
-    else judge_words L held rs (finished b (when two_words b then word_at mem (sum16 (pc rs) 2) else 0)))
-unfolding judge_second
-second_together L held rs mem b = one_test _ _ (λ w. judge_words L held rs (finished b w)) _ _
-
--- a first word that begins an instruction
-pub first_found : (L : Layout) (held : Bool) (rs mem : List ℕ) (b : Begun) (row : Row) (s d : ℕ) → b ≡ Found row s d
-    → judge_first L held rs mem b ≡ judge_second L held rs mem b
-unfolding judge_first
-first_found L held rs mem b row s d e = rw e
-
 -- RETI while a visit is held
 abbrev pub resuming : Bool → Instruction → Bool
 resuming held i = all (held ∷ is_reti i ∷ [])
@@ -90,9 +59,9 @@ record CausesPassed (L : Layout) (held : Bool) (rs : List ℕ) (previous : ℕ) 
 
 module _ (L : Layout) (held : Bool) (rs mem : List ℕ) (previous : ℕ) where
   -- whatever acts has passed
-  unfoldable Lawful : Judged → Type 0
-  Lawful (Faulty c) = Unit {0}
-  Lawful (Acts i) = CausesPassed L held rs previous i
+  unfoldable Lawful : Result Instruction Cause → Type 0
+  Lawful (Err c) = Unit {0}
+  Lawful (Ok i) = CausesPassed L held rs previous i
 
   module _ (x : may L previous execute (pc rs) ≡ true) (n : inside L (pc rs) ≡ true → held ≡ false) where
     act_lawful : (i : Instruction) → Lawful (judge_act L held rs i)
@@ -105,26 +74,26 @@ module _ (L : Layout) (held : Bool) (rs mem : List ℕ) (previous : ℕ) where
         choose Lawful _ (λ f. tt) λ f.
         choose Lawful _ (λ g. tt) λ g. passes (λ r. (not-false _ f, not-false _ g))
 
-    words_lawful : (r : Reading) → Lawful (judge_words L held rs r)
+    words_lawful : (r : Result Decoded Refusal) → Lawful (judge_words L held rs r)
     unfolding judge_words Lawful
-    words_lawful (Refused r) = tt
-    words_lawful (Decoded i n) = act_lawful i
+    words_lawful (Err r) = tt
+    words_lawful (Ok d) = act_lawful d.instruction
 
-    second_lawful : (b : Begun) → Lawful (judge_second L held rs mem b)
+    second_lawful : (b : Option Begun) → Lawful (judge_second L held rs mem b)
     unfolding judge_second Lawful
     second_lawful b = choose Lawful _ (λ t. choose Lawful _ (λ s. words_lawful _) (λ s. tt)) (λ t. words_lawful _)
 
-    first_lawful : (b : Begun) → Lawful (judge_first L held rs mem b)
+    first_lawful : (b : Option Begun) → Lawful (judge_first L held rs mem b)
     unfolding judge_first Lawful
-    first_lawful Nothing = tt
-    first_lawful (Found r s d) = second_lawful (Found r s d)
+    first_lawful None = tt
+    first_lawful (Some b) = second_lawful (Some b)
 
   lawful : Lawful (judge L held rs mem previous)
   unfolding judge Lawful
   lawful = choose Lawful _ (λ e. tt) λ x. choose Lawful _ (λ e. tt) λ n. first_lawful (not-false _ x) (not_second _ _ n) _
 
   -- an instruction that acts may be executed, does not enter the module again, and may do what it does
-  module _ (i : Instruction) (e : judge L held rs mem previous ≡ Acts i) where
+  module _ (i : Instruction) (e : judge L held rs mem previous ≡ Ok i) where
     passed : CausesPassed L held rs previous i
     unfolding Lawful
     passed = subst Lawful e lawful

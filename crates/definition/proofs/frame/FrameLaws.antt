@@ -1,4 +1,7 @@
 -- The frame holds at the start and after every step: after one call, only refusals 5 and 6 are left. Assumes nothing.
+use Rattle.base.specs.Verdict.{unrefused}
+use Rattle.base.specs.declared.refusal.Refusal.{Refusal}
+use Rattle.std.specs.Prelude.{Option, None, Some, Result, Err}
 use mathlib.Core.Path.{◌≡◌, refl, sym, ◌∙◌, ap}
 use mathlib.Core.Bool.{Bool, true}
 use mathlib.Core.Logic.{◌⊎◌, inl, inr}
@@ -12,24 +15,20 @@ use Rattle.base.specs.FirstFailure.{first_failure}
 use Rattle.base.specs.Word.{drop_bit0, is_even, difference16}
 use Rattle.base.specs.declared.refusal.Refusal.TheVariants.{Distance, Clock}
 use Rattle.base.proofs.Tests.{each, every, when_true, choose}
-use Rattle.base.specs.declared.verdict.Verdict.{Verdict}
-use Rattle.base.specs.declared.verdict.Verdict.TheVariants.{Taken as taken, Refused as refused}
 use Rattle.isa.specs.declared.instruction.Instruction.{Instruction}
 use Rattle.layout.specs.Sections.{inside}
 use Rattle.layout.specs.Rules.{accepted}
 use Rattle.layout.proofs.RuleLaws.{accepted_rules}
 use Rattle.alu.specs.Status.{gie}
 use Rattle.definition.specs.Setting.{Setting}
-use Rattle.definition.specs.declared.state.Stamp.TheVariants.{At}
 use Rattle.definition.specs.declared.state.Time.{Time}
 use Rattle.definition.specs.declared.state.SavedContext.{SavedContext}
-use Rattle.definition.specs.declared.state.SavedContext.TheVariants.{Unheld, Held}
 use Rattle.definition.specs.declared.state.State.{State}
 use Rattle.answers.specs.declared.answer.Cause.{Cause}
 use Rattle.definition.specs.Memory.{word_at}
 use Rattle.definition.specs.Registers.{sp, sr, cleared}
 use Rattle.definition.specs.Time.{pass, emptied}
-use Rattle.definition.specs.State.{World, world, vector, reset_address, start, framed_context, framed, from_vector}
+use Rattle.definition.specs.State.{World, world, vector, reset_address, start, framed_context, framed, from_vector, held_visit}
 use Rattle.definition.specs.Interrupt.{Step, age_of, due, reset, plain, padded, chained, back}
 use Rattle.definition.specs.Step.{saved_for, executed}
 use Rattle.definition.specs.Run.{step_of, world_after}
@@ -72,7 +71,7 @@ pub record FramedHeld (S : Setting) (saved : List ℕ) (previous age : ℕ) : Ty
   pub previous_inside : inside S.layout previous ≡ true
   pub previous_even : is_even previous ≡ true
 
-pub held_framed : (S : Setting) (m : State) (previous age : ℕ) → framed S m ≡ true → m.context ≡ Held previous age
+pub held_framed : (S : Setting) (m : State) (previous age : ℕ) → framed S m ≡ true → m.context ≡ held_visit previous age
     → FramedHeld S m.saved previous age
 held_framed S m previous age f e =
     let h = each _ (sym (ap (framed_context S.layout m.saved) e) ∙ (frame_parts S m f).context) in
@@ -126,7 +125,7 @@ module _ (S : Setting) (v : accepted S.layout ≡ true) where
       }
 
   -- a service that starts with its registers cleared
-  served_framed : (t : Time) (context : SavedContext) (saved : List ℕ) → FramedTime t → framed_context S.layout saved context ≡ true
+  served_framed : (t : Time) (context : Option SavedContext) (saved : List ℕ) → FramedTime t → framed_context S.layout saved context ≡ true
       → Framed S (from_vector (cleared S.layout.service) (pass S 6 (emptied t)) context saved)
   served_framed t context saved f h =
       record {
@@ -136,7 +135,7 @@ module _ (S : Setting) (v : accepted S.layout ≡ true) where
         context = h;
       }
 
-  padded_framed : (s : ℕ) (m : State) (mem : List ℕ) → due m ≡ At s → inside S.layout m.previous ≡ true → Framed S m
+  padded_framed : (s : ℕ) (m : State) (mem : List ℕ) → due m ≡ Some s → inside S.layout m.previous ≡ true → Framed S m
       → Framed S (padded S s m mem).state
   unfolding padded
   padded_framed s m mem d h f =
@@ -157,10 +156,10 @@ module _ (S : Setting) (v : accepted S.layout ≡ true) where
       })
       (λ e. reset_framed _ m mem f.time)
 
-  saved_framed : (context : SavedContext) (saved : List ℕ) → framed_context S.layout saved context ≡ true
+  saved_framed : (context : Option SavedContext) (saved : List ℕ) → framed_context S.layout saved context ≡ true
       → framed_context S.layout (saved_for context saved) context ≡ true
-  saved_framed Unheld saved e = refl
-  saved_framed (Held previous age) saved e = e
+  saved_framed None saved e = refl
+  saved_framed (Some _) saved e = e
 
   module _ (m : State) (mem : List ℕ) (e : framed S m ≡ true) where
     parts : Framed S m
@@ -177,7 +176,7 @@ module _ (S : Setting) (v : accepted S.layout ≡ true) where
           context = saved_framed m.context m.saved parts.context;
         }
 
-    return_framed : (previous age : ℕ) → m.context ≡ Held previous age → Framed S (after_return S m previous age)
+    return_framed : (previous age : ℕ) → m.context ≡ held_visit previous age → Framed S (after_return S m previous age)
     unfolding back
     return_framed previous age v =
         let h = held_framed S m previous age e v in
@@ -226,8 +225,8 @@ ready_kept S w s =
     }
 
 -- the call is taken, or refused for its budget or the clock
-abbrev DistanceOrClock : Verdict → Type 0
-DistanceOrClock v = (v ≡ taken) ⊎ ((v ≡ refused Distance) ⊎ (v ≡ refused Clock))
+abbrev DistanceOrClock : Result (Unit {0}) Refusal → Type 0
+DistanceOrClock v = (v ≡ unrefused) ⊎ ((v ≡ Err Distance) ⊎ (v ≡ Err Clock))
 
 pub only_distance_or_clock : OnlyDistanceOrClock
 unfolding OnlyDistanceOrClock first_failure

@@ -1,4 +1,5 @@
 -- Cycles, an emptied slot and a set alarm keep a slot stamp above 0 and not above the clock, an alarm above it. Assumes nothing.
+use Rattle.std.specs.Prelude.{Option, None, Some}
 use mathlib.Core.Path.{◌≡◌, refl, sym, ◌∙◌}
 use mathlib.Core.Bool.{true, true≢false}
 use Prim.Native.Nat.{ℕ, ◌+◌, ◌≤◌}
@@ -7,8 +8,6 @@ use lib.Dec.{ltb, eqb}
 use borrow.Author.Tests.{eqb-false, ltb-false, leb-true, lt-ltb, le-leb}
 use Rattle.base.proofs.Tests.{cases, each, every, choose}
 use Rattle.definition.specs.Setting.{Setting}
-use Rattle.definition.specs.declared.state.Stamp.{Stamp}
-use Rattle.definition.specs.declared.state.Stamp.TheVariants.{Never, At}
 use Rattle.definition.specs.declared.state.Time.{Time}
 use Rattle.definition.specs.Time.{happens, filled_by, alarm_left, pass, emptied, set_alarm}
 use Rattle.definition.specs.State.{framed_slot, framed_alarm}
@@ -17,25 +16,25 @@ use Rattle.definition.proofs.time.PassLaws.{Within, request_within}
 -- ---- the slot
 
 -- a request that happens is not 0 and not above the clock
-within_slot : (a b : ℕ) (s : Stamp) → Within a b s → framed_slot b s ≡ true
+within_slot : (a b : ℕ) (s : Option ℕ) → Within a b s → framed_slot b s ≡ true
 unfolding Within
-within_slot a b Never h = refl
-within_slot a b (At s) h = every _ (lt-ltb 0 s (omega arith), (le-leb s b h.1, tt))
+within_slot a b None h = refl
+within_slot a b (Some s) h = every _ (lt-ltb 0 s (omega arith), (le-leb s b h.1, tt))
 
-filled_slot : (a b : ℕ) (s t : Stamp) → a ≤ b → framed_slot a s ≡ true → framed_slot b t ≡ true → framed_slot b (filled_by s t) ≡ true
+filled_slot : (a b : ℕ) (s t : Option ℕ) → a ≤ b → framed_slot a s ≡ true → framed_slot b t ≡ true → framed_slot b (filled_by s t) ≡ true
 unfolding filled_by
-filled_slot a b Never t h p q = q
-filled_slot a b (At s) t h p q = let k = each _ p in every _ (k.0, (le-leb s b (omega (arith, leb-true)), tt))
+filled_slot a b None t h p q = q
+filled_slot a b (Some s) t h p q = let k = each _ p in every _ (k.0, (le-leb s b (omega (arith, leb-true)), tt))
 
 -- ---- the alarm
 
-abbrev Alarm : ℕ → Stamp → Type 0
+abbrev Alarm : ℕ → Option ℕ → Type 0
 Alarm b s = framed_alarm b s ≡ true
 
-alarm_left_lem : (a b : ℕ) (s : Stamp) → framed_alarm a s ≡ true → framed_alarm b (alarm_left a b s) ≡ true
+alarm_left_lem : (a b : ℕ) (s : Option ℕ) → framed_alarm a s ≡ true → framed_alarm b (alarm_left a b s) ≡ true
 unfolding alarm_left
-alarm_left_lem a b Never h = refl
-alarm_left_lem a b (At s) h =
+alarm_left_lem a b None h = refl
+alarm_left_lem a b (Some s) h =
     choose (Alarm b) (happens a b s) (λ e. refl) λ e.
     cases (ltb b s) (λ f. f) λ f.
     absurd (true≢false (sym (every _ (h, (le-leb s b (ltb-false b s f), tt))) ∙ e))

@@ -1,4 +1,7 @@
 -- What a call knows where it is taken, and what it must hand back. Assumes nothing.
+use Rattle.answers.specs.declared.answer.Stopped.{Stopped}
+use Rattle.answers.specs.declared.answer.Outcome.{Outcome}
+use Rattle.std.specs.Prelude.{Result, Err, Ok}
 use mathlib.Core.Path.{◌≡◌, refl, sym, ◌∙◌, ap}
 use mathlib.Core.Bool.{true}
 use mathlib.Core.List.{List}
@@ -7,18 +10,13 @@ use lib.ListN.{length}
 use borrow.Author.Tests.{eqb-true, leb-true}
 use Rattle.base.specs.Test.{when◌then◌else◌}
 use Rattle.base.specs.declared.refusal.Refusal.{Refusal}
-use Rattle.base.specs.declared.verdict.Verdict.{Verdict}
-use Rattle.base.specs.declared.verdict.Verdict.TheVariants.{Taken as taken, Refused as refused}
 use Rattle.base.specs.FirstFailure.{Test, holds_of}
 use Rattle.base.specs.Limits.{memory_bytes, last_clock}
-use Rattle.base.specs.Verdict.{verdict, refused_by}
+use Rattle.base.specs.Verdict.{verdict, refused_by, unrefused}
 use Rattle.base.proofs.Refusals.{number_not_zero}
 use Rattle.base.proofs.Tests.{Each, none_fails}
 use Rattle.definition.specs.Setting.{Setting}
 use Rattle.definition.specs.declared.state.State.{State}
-use Rattle.answers.specs.declared.answer.StartAnswer.{StartAnswer}
-use Rattle.answers.specs.declared.answer.StepAnswer.{StepAnswer}
-use Rattle.answers.specs.declared.answer.RunAnswer.{RunAnswer}
 use Rattle.definition.specs.State.{World, world}
 use Rattle.definition.specs.Answers.{start_refusal, step_refusal, run_refusal, step_kind, step_cause, run_end, run_steps}
 use Rattle.definition.specs.Calls.{timetable, start_tests, step_tests, run_tests, Called, called, start_answered, step_answered, run_answered, start_call, step_call, run_call}
@@ -28,12 +26,12 @@ use Rattle.definition.specs.Laws.{in_order, RefusalsInOrder, RefusedUntouched}
 -- ---- what is known where a call is taken
 
 -- a refusal is no taken call
-not_taken : (r : Refusal) → refused r ≡ taken → ⊥
+not_taken : (r : Refusal) → Err r ≡ unrefused → ⊥
 not_taken r e = number_not_zero r (ap refused_by e)
 
 -- each test of a call that is taken holds
-pub all_hold : (ts : List (Test Refusal)) → verdict ts ≡ taken → Each (holds_of ts)
-all_hold ts e = none_fails taken refused not_taken ts e
+pub all_hold : (ts : List (Test Refusal)) → verdict ts ≡ unrefused → Each (holds_of ts)
+all_hold ts e = none_fails unrefused Err not_taken ts e
 
 module _ (S : Setting) where
   -- memory is whole, the stamps are a timetable, the clock is not late
@@ -42,12 +40,12 @@ module _ (S : Setting) where
     pub timed : timetable S.stamps ≡ true
     pub early : w.state.time.clock ≤ last_clock
 
-  pub step_fit : (w : World) → verdict (step_tests S w) ≡ taken → Fit w
+  pub step_fit : (w : World) → verdict (step_tests S w) ≡ unrefused → Fit w
   step_fit w e =
       let h = all_hold (step_tests S w) e in
       record { whole = eqb-true _ _ h.0; timed = h.1.1.0; early = leb-true _ _ h.1.1.1.1.0 }
 
-  pub run_fit : (budget : ℕ) (w : World) → verdict (run_tests S budget w) ≡ taken → Fit w
+  pub run_fit : (budget : ℕ) (w : World) → verdict (run_tests S budget w) ≡ unrefused → Fit w
   run_fit budget w e =
       let h = all_hold (run_tests S budget w) e in
       record { whole = eqb-true _ _ h.0; timed = h.1.1.0; early = leb-true _ _ h.1.1.1.1.1.0 }
@@ -55,23 +53,23 @@ module _ (S : Setting) where
 -- ---- what is promised follows from the result
 
 -- what start answers, by the verdict
-start_number : (mem : List ℕ) (v : Verdict) → start_refusal (start_answered mem v).answer ≡ refused_by v
-start_number mem taken = refl
-start_number mem (refused r) = refl
+start_number : (mem : List ℕ) (v : Result (Unit {0}) Refusal) → start_refusal (start_answered mem v).answer ≡ refused_by v
+start_number mem (Ok _) = refl
+start_number mem (Err r) = refl
 
-pub start_promised : (mem : List ℕ) (m : State) (answer : StartAnswer) → called m mem answer ≡ start_call mem → StartPromise mem m answer
+pub start_promised : (mem : List ℕ) (m : State) (answer : Result (Unit {0}) Refusal) → called m mem answer ≡ start_call mem → StartPromise mem m answer
 unfolding start_call
 start_promised mem m answer e =
-    let same : answer ≡ (start_answered mem (verdict (start_tests mem))).answer = ap (λ (c : Called StartAnswer). c.answer) e in
+    let same : answer ≡ (start_answered mem (verdict (start_tests mem))).answer = ap (λ (c : Called (Result (Unit {0}) Refusal)). c.answer) e in
     record { result = e; number = ap start_refusal same ∙ start_number mem (verdict (start_tests mem)) }
 
 module _ (S : Setting) (before after : World) where
-  module _ (answer : StepAnswer) where
-    step_answers : (v : Verdict) → verdict (step_tests S before) ≡ v
+  module _ (answer : Result Outcome Refusal) where
+    step_answers : (v : Result (Unit {0}) Refusal) → verdict (step_tests S before) ≡ v
         → called after.state after.memory answer ≡ step_answered S before v
         → called after.state after.memory answer ≡ step_call S before → StepPromise S before after answer
-    step_answers taken h e r =
-        let same = ap (λ (c : Called StepAnswer). c.answer) e in
+    step_answers (Ok _) h e r =
+        let same = ap (λ (c : Called (Result Outcome Refusal)). c.answer) e in
         record {
           result = r;
           number = ap step_refusal same ∙ sym (ap refused_by h);
@@ -79,26 +77,26 @@ module _ (S : Setting) (before after : World) where
           cause = λ z. ap step_cause same;
           refused = λ n. absurd (n (ap step_refusal same));
         }
-    step_answers (refused f) h e r =
-        let same = ap (λ (c : Called StepAnswer). c.answer) e in
+    step_answers (Err f) h e r =
+        let same = ap (λ (c : Called (Result Outcome Refusal)). c.answer) e in
         record {
           result = r;
           number = ap step_refusal same ∙ sym (ap refused_by h);
           kind = λ z. absurd (number_not_zero f (sym (ap step_refusal same) ∙ z));
           cause = λ z. absurd (number_not_zero f (sym (ap step_refusal same) ∙ z));
-          refused = λ n. (ap (λ (c : Called StepAnswer). c.state) e, ap (λ (c : Called StepAnswer). c.memory) e);
+          refused = λ n. (ap (λ (c : Called (Result Outcome Refusal)). c.state) e, ap (λ (c : Called (Result Outcome Refusal)). c.memory) e);
         }
 
     pub step_promised : called after.state after.memory answer ≡ step_call S before → StepPromise S before after answer
     unfolding step_call
     step_promised e = step_answers (verdict (step_tests S before)) refl e e
 
-  module _ (budget : ℕ) (answer : RunAnswer) where
-    run_answers : (v : Verdict) → verdict (run_tests S budget before) ≡ v
+  module _ (budget : ℕ) (answer : Result Stopped Refusal) where
+    run_answers : (v : Result (Unit {0}) Refusal) → verdict (run_tests S budget before) ≡ v
         → called after.state after.memory answer ≡ run_answered S budget before v
         → called after.state after.memory answer ≡ run_call S budget before → RunPromise S budget before after answer
-    run_answers taken h e r =
-        let same = ap (λ (c : Called RunAnswer). c.answer) e in
+    run_answers (Ok _) h e r =
+        let same = ap (λ (c : Called (Result Stopped Refusal)). c.answer) e in
         record {
           result = r;
           number = ap run_refusal same ∙ sym (ap refused_by h);
@@ -106,14 +104,14 @@ module _ (S : Setting) (before after : World) where
           steps = λ z. ap run_steps same;
           refused = λ n. absurd (n (ap run_refusal same));
         }
-    run_answers (refused f) h e r =
-        let same = ap (λ (c : Called RunAnswer). c.answer) e in
+    run_answers (Err f) h e r =
+        let same = ap (λ (c : Called (Result Stopped Refusal)). c.answer) e in
         record {
           result = r;
           number = ap run_refusal same ∙ sym (ap refused_by h);
           end = λ z. absurd (number_not_zero f (sym (ap run_refusal same) ∙ z));
           steps = λ z. absurd (number_not_zero f (sym (ap run_refusal same) ∙ z));
-          refused = λ n. (ap (λ (c : Called RunAnswer). c.state) e, ap (λ (c : Called RunAnswer). c.memory) e);
+          refused = λ n. (ap (λ (c : Called (Result Stopped Refusal)). c.state) e, ap (λ (c : Called (Result Stopped Refusal)). c.memory) e);
         }
 
     pub run_promised : called after.state after.memory answer ≡ run_call S budget before
@@ -123,7 +121,7 @@ module _ (S : Setting) (before after : World) where
 
 -- ---- what a call gives, by the verdict on its tests
 
-module _ (S : Setting) (w : World) (v : Verdict) where
+module _ (S : Setting) (w : World) (v : Result (Unit {0}) Refusal) where
   pub step_call_lem : verdict (step_tests S w) ≡ v → step_call S w ≡ step_answered S w v
   unfolding step_call
   step_call_lem e = ap (step_answered S w) e

@@ -1,15 +1,9 @@
 -- An instruction outside is judged, and acts, by what is seen from outside. Assumes nothing.
-use mathlib.Core.Path.{◌≡◌, refl, sym, ◌∙◌, ap}
-use mathlib.Core.Bool.{Bool, true, false}
-use mathlib.Core.List.{List, [], ◌∷◌}
-use Prim.Native.Nat.{ℕ}
-use native.Mathlib.Omega.{arith}
-use borrow.Author.Tests.{eqb-true}
+use Rattle.std.proofs.Common.{◌≡◌, refl, sym, ◌∙◌, ap, Bool, true, false, List, [], ◌∷◌, ℕ, arith, eqb-true, Option, None, Some}
 use Rattle.base.specs.Test.{all}
 use Rattle.base.specs.Word.{drop_bit0, is_even, sum16}
 use Rattle.base.proofs.Tests.{choose_both}
 use Rattle.rows.specs.declared.read.Begun.{Begun}
-use Rattle.rows.specs.declared.read.Begun.TheVariants.{Nothing, Found}
 use Rattle.rows.specs.Words.{begun}
 use Rattle.isa.specs.declared.instruction.Instruction.{Instruction}
 use Rattle.layout.specs.declared.access.Right.TheVariants.{Read as read}
@@ -52,17 +46,17 @@ module _ (S : Setting) (fit : accepted S.layout ≡ true) (rs mem bytes : List �
       second_word h =
           even_word (sum16 (pc rs) 2) (omega (arith, eqb-true)) (sym (same_outside S.layout _ _ (same_side_section S.layout _ _ h)) ∙ o)
 
-      second_alike : (b : Begun) → judge_second S.layout held rs mem b ≡ judge_second S.layout held rs bytes b
+      second_alike : (b : Option Begun) → judge_second S.layout held rs mem b ≡ judge_second S.layout held rs bytes b
       unfolding judge_second
       second_alike b =
           choose_both ◌≡◌ _
           (λ t. choose_both ◌≡◌ _ (λ h. rw (second_word h)) (λ h. refl))
           (λ t. refl)
 
-      first_alike : (b : Begun) → judge_first S.layout held rs mem b ≡ judge_first S.layout held rs bytes b
+      first_alike : (b : Option Begun) → judge_first S.layout held rs mem b ≡ judge_first S.layout held rs bytes b
       unfolding judge_first
-      first_alike Nothing = refl
-      first_alike (Found r n d) = second_alike (Found r n d)
+      first_alike None = refl
+      first_alike (Some b) = second_alike (Some b)
 
       none_entered : all (inside S.layout (pc rs) ∷ held ∷ []) ≡ false
       none_entered = first_fails _ _ (outside_not_inside S.layout _ o)

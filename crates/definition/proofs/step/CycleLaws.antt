@@ -6,9 +6,8 @@ use Prim.Native.Nat.{ℕ, ◌+◌, ◌≤◌}
 use native.Mathlib.Omega.{arith}
 use Rattle.base.proofs.Tests.{when_true, choose}
 use Rattle.isa.specs.declared.instruction.Instruction.{Instruction}
+use Rattle.definition.specs.State.{held_visit}
 use Rattle.definition.specs.Setting.{Setting}
-use Rattle.definition.specs.declared.state.SavedContext.{SavedContext}
-use Rattle.definition.specs.declared.state.SavedContext.TheVariants.{Unheld, Held}
 use Rattle.definition.specs.declared.state.State.{State}
 use Rattle.answers.specs.declared.answer.Cause.{Cause}
 use Rattle.definition.specs.Time.{pass, emptied}
@@ -16,7 +15,7 @@ use Rattle.definition.specs.Interrupt.{Step, age_of, reset, plain, padded, chain
 use Rattle.definition.specs.Step.{step}
 use Rattle.definition.specs.Laws.{StepCycles, HaltedStays}
 use Rattle.definition.proofs.instruction.InstructionLaws.{cycles_range}
-use Rattle.definition.proofs.step.StepLaws.{next, Way, resets, halts, runs, serves, pads, chains, returns, pads_again, way, next_clock}
+use Rattle.definition.proofs.step.StepLaws.{held_age, next, Way, resets, halts, runs, serves, pads, chains, returns, pads_again, way, next_clock}
 use Rattle.definition.proofs.frame.FrameLaws.{held_framed}
 
 -- the step adds from least to most cycles to the clock c
@@ -47,7 +46,7 @@ module _ (S : Setting) where
     next_range i = let n = cycles_range i in omega (arith, next_clock S m mem i)
 
     -- by the most that a held age can be
-    module _ (most : ℕ) (f : (p a : ℕ) → m.context ≡ Held p a → a ≤ most) where
+    module _ (most : ℕ) (f : (p a : ℕ) → m.context ≡ held_visit p a → a ≤ most) where
       way_adds : (s : Step) → Way S m mem s → Adds 1 (17 + most) m.time.clock s
       unfolding chained back emptied pass
       way_adds s (resets c e) = after (reset_adds c m mem) (omega arith) (omega arith)
@@ -67,13 +66,8 @@ step_cycles S m mem f r =
     (a.at_least, omega arith)
 
 -- whatever its state, a running machine's clock rises
-held_age : SavedContext → ℕ
-held_age Unheld = 0
-held_age (Held previous age) = age
-
 pub clock_rises : (S : Setting) (m : State) (mem : List ℕ) → m.halted ≡ false
     → m.time.clock + 1 ≤ (step S m mem).state.time.clock
-unfolding held_age
 clock_rises S m mem r =
     (way_adds S m mem (held_age m.context) (λ p a h. let k = ap held_age h in omega arith) _ (way S m mem r)).at_least
 

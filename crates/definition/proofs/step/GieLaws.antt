@@ -1,4 +1,5 @@
 -- GIE: code inside never alters it, an interrupt is due only where it is set, and every service clears it. Assumes nothing.
+use Rattle.std.specs.Prelude.{None, Some}
 use mathlib.Core.Path.{◌≡◌, refl, sym, ◌∙◌, ap}
 use mathlib.Core.Bool.{Bool, true, false, true≢false}
 use mathlib.Core.List.{List, [], ◌∷◌}
@@ -13,7 +14,6 @@ use Rattle.alu.specs.Status.{gie}
 use Rattle.alu.specs.Laws.{FlagsOnly, GieKept}
 use Rattle.alu.proofs.StatusBits.{flags_only, gie_kept}
 use Rattle.definition.specs.Setting.{Setting}
-use Rattle.definition.specs.declared.state.Stamp.TheVariants.{Never, At}
 use Rattle.definition.specs.declared.state.State.{State}
 use Rattle.definition.specs.Registers.{register, sr, pc, write, cleared}
 use Rattle.definition.specs.Act.{past}
@@ -56,18 +56,18 @@ next_gie S m mem i h = rw h (gie_kept_inside m.registers mem _ i)
 -- ---- what is due
 
 -- what is due is in the slot, and GIE is set
-pub due_at : (m : State) (s : ℕ) → due m ≡ At s → (gie (sr m.registers) ≡ true) × (m.time.slot ≡ At s)
+pub due_at : (m : State) (s : ℕ) → due m ≡ Some s → (gie (sr m.registers) ≡ true) × (m.time.slot ≡ Some s)
 unfolding due
 due_at m s e =
     cases (gie (sr m.registers)) (λ g. (g, sym (when_true _ _ _ g) ∙ e))
-    (λ g. let f = when_false _ m.time.slot Never g in (cc, cc))
+    (λ g. let f = when_false _ m.time.slot None g in (cc, cc))
 
-pub at_due : (m : State) (s : ℕ) → gie (sr m.registers) ≡ true → m.time.slot ≡ At s → due m ≡ At s
+pub at_due : (m : State) (s : ℕ) → gie (sr m.registers) ≡ true → m.time.slot ≡ Some s → due m ≡ Some s
 unfolding due
 at_due m s g e = when_true _ _ _ g ∙ e
 
 -- no interrupt is due: where GIE is set the slot is empty
-pub due_never : (m : State) → due m ≡ Never → NothingDue m
+pub due_never : (m : State) → due m ≡ None → NothingDue m
 unfolding due
 due_never m e g = sym (when_true _ _ _ g) ∙ e
 

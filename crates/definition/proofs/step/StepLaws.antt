@@ -1,4 +1,5 @@
 -- How a step goes: its equation where it is known what the machine does, and the ways that there are. Assumes nothing.
+use Rattle.std.specs.Prelude.{Option, None, Some, Result, Ok, Err}
 use mathlib.Core.Path.{◌≡◌, refl, sym, ◌∙◌, ap, subst}
 use mathlib.Core.Bool.{Bool, true, false}
 use mathlib.Core.List.{List}
@@ -10,19 +11,14 @@ use Rattle.isa.specs.declared.instruction.Instruction.TheVariants.{Reti}
 use Rattle.isa.specs.Cycles.{cycles_of}
 use Rattle.layout.specs.Sections.{inside}
 use Rattle.definition.specs.Setting.{Setting}
-use Rattle.definition.specs.declared.state.Stamp.{Stamp}
-use Rattle.definition.specs.declared.state.Stamp.TheVariants.{Never, At}
 use Rattle.definition.specs.declared.state.Time.{Time}
 use Rattle.definition.specs.declared.state.SavedContext.{SavedContext}
-use Rattle.definition.specs.declared.state.SavedContext.TheVariants.{Unheld, Held}
 use Rattle.definition.specs.declared.state.State.{State}
 use Rattle.answers.specs.declared.answer.Cause.{Cause}
 use Rattle.answers.specs.declared.answer.Outcome.TheVariants.{Ran, Back, Halted}
 use Rattle.definition.specs.Registers.{pc}
 use Rattle.definition.specs.Time.{pass}
-use Rattle.definition.specs.State.{is_held, world}
-use Rattle.definition.specs.declared.judge.Judged.{Judged}
-use Rattle.definition.specs.declared.judge.Judged.TheVariants.{Faulty, Acts}
+use Rattle.definition.specs.State.{is_held, world, held_visit}
 use Rattle.definition.specs.Judge.{privileged, is_reti}
 use Rattle.definition.specs.Act.{memory_after}
 use Rattle.definition.specs.Interrupt.{Step, gives, due, reset, plain, padded, interrupted, chained, back, resumed}
@@ -30,6 +26,15 @@ use Rattle.definition.specs.Step.{is_hlt, executed, judged, ordinary, performed,
 use Rattle.definition.proofs.time.PassLaws.{pass_clock}
 use Rattle.definition.proofs.cause.JudgeLaws.{not_second, first_fails, second_fails, resuming, acts_unheld, acts_unprivileged}
 use Rattle.definition.proofs.instruction.InstructionLaws.{is_reti_lem, alarmed_else, unprivileged}
+
+-- the age of a held visit, 0 where none is held
+abbrev pub held_age : Option SavedContext → ℕ
+held_age None = 0
+held_age (Some visit) = visit.age
+
+-- a held visit has one age
+pub same_age : (previous age other_previous other_age : ℕ) → held_visit previous age ≡ held_visit other_previous other_age → age ≡ other_age
+same_age previous age other_previous other_age e = ap held_age e
 
 -- the memory after an instruction
 abbrev pub bytes : State → List ℕ → Instruction → List ℕ
@@ -49,78 +54,78 @@ module _ (S : Setting) (m : State) (mem : List ℕ) where
 
   -- an instruction acts that neither returns to a held visit nor halts
   pub record Runs (i : Instruction) : Type 0 where
-    pub acting : judged S (world m mem) ≡ Acts i
+    pub acting : judged S (world m mem) ≡ Ok i
     pub staying : resuming (is_held m.context) i ≡ false
     pub going : is_hlt i ≡ false
 
   -- RETI acts while a visit is held
   pub record Returns (previous age : ℕ) : Type 0 where
-    pub holding : m.context ≡ Held previous age
-    pub acting : judged S (world m mem) ≡ Acts Reti
+    pub holding : m.context ≡ held_visit previous age
+    pub acting : judged S (world m mem) ≡ Ok Reti
 
   -- the ways in which a step goes
   pub data Way : Step → Type 0 where
-    resets : (c : Cause) → judged S (world m mem) ≡ Faulty c → Way (reset S c m mem)
-    halts : (i : Instruction) → judged S (world m mem) ≡ Acts i → is_hlt i ≡ true → Way (gives (next i) (bytes m mem i) Halted)
-    runs : (i : Instruction) → Runs i → due (next i) ≡ Never → Way (gives (next i) (bytes m mem i) Ran)
-    serves : (i : Instruction) (s : ℕ) → Runs i → inside S.layout (pc m.registers) ≡ false → due (next i) ≡ At s
+    resets : (c : Cause) → judged S (world m mem) ≡ Err c → Way (reset S c m mem)
+    halts : (i : Instruction) → judged S (world m mem) ≡ Ok i → is_hlt i ≡ true → Way (gives (next i) (bytes m mem i) Halted)
+    runs : (i : Instruction) → Runs i → due (next i) ≡ None → Way (gives (next i) (bytes m mem i) Ran)
+    serves : (i : Instruction) (s : ℕ) → Runs i → inside S.layout (pc m.registers) ≡ false → due (next i) ≡ Some s
         → Way (plain S (next i) (bytes m mem i))
-    pads : (i : Instruction) (s : ℕ) → Runs i → inside S.layout (pc m.registers) ≡ true → due (next i) ≡ At s
+    pads : (i : Instruction) (s : ℕ) → Runs i → inside S.layout (pc m.registers) ≡ true → due (next i) ≡ Some s
         → Way (padded S s (next i) (bytes m mem i))
-    chains : (previous age s : ℕ) → Returns previous age → (after_reti S m).slot ≡ At s
-        → Way (chained S (after_reti S m) (Held previous age) m.saved mem)
-    returns : (previous age : ℕ) → Returns previous age → (after_reti S m).slot ≡ Never
-        → due (after_return S m previous age) ≡ Never
+    chains : (previous age s : ℕ) → Returns previous age → (after_reti S m).slot ≡ Some s
+        → Way (chained S (after_reti S m) (held_visit previous age) m.saved mem)
+    returns : (previous age : ℕ) → Returns previous age → (after_reti S m).slot ≡ None
+        → due (after_return S m previous age) ≡ None
         → Way (gives (after_return S m previous age) mem Back)
-    pads_again : (previous age s : ℕ) → Returns previous age → (after_reti S m).slot ≡ Never
-        → due (after_return S m previous age) ≡ At s
+    pads_again : (previous age s : ℕ) → Returns previous age → (after_reti S m).slot ≡ None
+        → due (after_return S m previous age) ≡ Some s
         → Way (padded S s (after_return S m previous age) mem)
 
-  performed_ordinary : (v : SavedContext) (i : Instruction) → resuming (is_held v) i ≡ false
+  performed_ordinary : (v : Option SavedContext) (i : Instruction) → resuming (is_held v) i ≡ false
       → performed S m mem v i ≡ ordinary S m mem i
   unfolding performed
-  performed_ordinary Unheld i e = refl
-  performed_ordinary (Held previous age) i e = when_false _ _ _ (not_second true (is_reti i) e refl)
+  performed_ordinary None i e = refl
+  performed_ordinary (Some _) i e = when_false _ _ _ (not_second true (is_reti i) e refl)
 
-  interrupted_way : (i : Instruction) → Runs i → (t : Bool) → inside S.layout (pc m.registers) ≡ t → (d : Stamp) → due (next i) ≡ d
+  interrupted_way : (i : Instruction) → Runs i → (t : Bool) → inside S.layout (pc m.registers) ≡ t → (d : Option ℕ) → due (next i) ≡ d
       → Way (interrupted S t Ran (next i) (bytes m mem i) d)
   unfolding interrupted
-  interrupted_way i r t h Never e = runs i r e
-  interrupted_way i r true h (At s) e = pads i s r h e
-  interrupted_way i r false h (At s) e = serves i s r h e
+  interrupted_way i r t h None e = runs i r e
+  interrupted_way i r true h (Some s) e = pads i s r h e
+  interrupted_way i r false h (Some s) e = serves i s r h e
 
-  ordinary_way : (i : Instruction) → judged S (world m mem) ≡ Acts i → resuming (is_held m.context) i ≡ false
+  ordinary_way : (i : Instruction) → judged S (world m mem) ≡ Ok i → resuming (is_held m.context) i ≡ false
       → Way (ordinary S m mem i)
   unfolding ordinary executed
   ordinary_way i e n =
       choose Way (is_hlt i) (λ h. halts i e h)
       (λ h. interrupted_way i (record { acting = e; staying = n; going = h }) _ refl _ refl)
 
-  return_way : (previous age : ℕ) → Returns previous age → (after_reti S m).slot ≡ Never
-      → (d : Stamp) → due (after_return S m previous age) ≡ d
+  return_way : (previous age : ℕ) → Returns previous age → (after_reti S m).slot ≡ None
+      → (d : Option ℕ) → due (after_return S m previous age) ≡ d
       → Way (interrupted S true Back (after_return S m previous age) mem d)
   unfolding interrupted
-  return_way previous age r n Never e = returns previous age r n e
-  return_way previous age r n (At s) e = pads_again previous age s r n e
+  return_way previous age r n None e = returns previous age r n e
+  return_way previous age r n (Some s) e = pads_again previous age s r n e
 
-  resumed_way : (previous age : ℕ) → Returns previous age → (d : Stamp) → (after_reti S m).slot ≡ d
+  resumed_way : (previous age : ℕ) → Returns previous age → (d : Option ℕ) → (after_reti S m).slot ≡ d
       → Way (resumed S (after_reti S m) previous age m.saved mem d)
   unfolding resumed
-  resumed_way previous age r Never e = return_way previous age r e _ refl
-  resumed_way previous age r (At s) e = chains previous age s r e
+  resumed_way previous age r None e = return_way previous age r e _ refl
+  resumed_way previous age r (Some s) e = chains previous age s r e
 
-  performed_way : (v : SavedContext) → m.context ≡ v → (i : Instruction) → judged S (world m mem) ≡ Acts i → Way (performed S m mem v i)
+  performed_way : (v : Option SavedContext) → m.context ≡ v → (i : Instruction) → judged S (world m mem) ≡ Ok i → Way (performed S m mem v i)
   unfolding performed all when◌then◌else◌
-  performed_way Unheld h i e = ordinary_way i e (ap (λ (v : SavedContext). resuming (is_held v) i) h)
-  performed_way (Held previous age) h i e =
+  performed_way None h i e = ordinary_way i e (ap (λ (v : Option SavedContext). resuming (is_held v) i) h)
+  performed_way (Some visit) h i e =
       choose Way (is_reti i)
-      (λ r. rw (is_reti_lem i r) (resumed_way previous age (record { holding = h; acting = e ∙ ap Acts (is_reti_lem i r) }) _ refl))
+      (λ r. rw (is_reti_lem i r) (resumed_way visit.previous visit.age (record { holding = h; acting = e ∙ ap Ok (is_reti_lem i r) }) _ refl))
       (λ r. ordinary_way i e (second_fails (is_held m.context) (is_reti i) r))
 
-  judged_way : (j : Judged) → judged S (world m mem) ≡ j → Way (step_judged S m mem j)
+  judged_way : (j : Result Instruction Cause) → judged S (world m mem) ≡ j → Way (step_judged S m mem j)
   unfolding step_judged
-  judged_way (Faulty c) e = resets c e
-  judged_way (Acts i) e = performed_way m.context refl i e
+  judged_way (Err c) e = resets c e
+  judged_way (Ok i) e = performed_way m.context refl i e
 
   -- what holds of a halted machine as it is, and of every way, holds of a step
   pub step_case : (P : Step → Type 0) → (m.halted ≡ true → P (gives m mem Halted)) → ((s : Step) → Way s → P s)
@@ -137,7 +142,7 @@ module _ (S : Setting) (m : State) (mem : List ℕ) where
   unfolding executed
   next_slot i = (alarmed_else m.registers _ i).1
 
-  module _ (i : Instruction) (e : judged S (world m mem) ≡ Acts i) (h : inside S.layout (pc m.registers) ≡ true) where
+  module _ (i : Instruction) (e : judged S (world m mem) ≡ Ok i) (h : inside S.layout (pc m.registers) ≡ true) where
     unprivileged_inside : privileged i ≡ false
     unprivileged_inside = acts_unprivileged S.layout _ m.registers mem m.previous i e h
 
@@ -164,11 +169,11 @@ module _ (S : Setting) (m : State) (mem : List ℕ) where
     way = subst Way (sym running_step) (judged_way (judged S (world m mem)) refl)
 
     -- the equation of each way
-    pub step_faulty : (c : Cause) → judged S (world m mem) ≡ Faulty c → step S m mem ≡ reset S c m mem
+    pub step_faulty : (c : Cause) → judged S (world m mem) ≡ Err c → step S m mem ≡ reset S c m mem
     unfolding step_judged
     step_faulty c e = running_step ∙ ap (step_judged S m mem) e
 
-    pub step_acts : (i : Instruction) → judged S (world m mem) ≡ Acts i → step S m mem ≡ performed S m mem m.context i
+    pub step_acts : (i : Instruction) → judged S (world m mem) ≡ Ok i → step S m mem ≡ performed S m mem m.context i
     unfolding step_judged
     step_acts i e = running_step ∙ ap (step_judged S m mem) e
 
@@ -178,7 +183,7 @@ module _ (S : Setting) (m : State) (mem : List ℕ) where
     step_runs i r = step_acts i r.acting ∙ performed_ordinary m.context i r.staying ∙ when_false _ _ _ r.going
 
     -- an instruction inside, into which a request breaks
-    pub step_pads : (i : Instruction) (s : ℕ) → judged S (world m mem) ≡ Acts i → inside S.layout (pc m.registers) ≡ true → due (next i) ≡ At s
+    pub step_pads : (i : Instruction) (s : ℕ) → judged S (world m mem) ≡ Ok i → inside S.layout (pc m.registers) ≡ true → due (next i) ≡ Some s
         → step S m mem ≡ padded S s (next i) (bytes m mem i)
     unfolding interrupted
     step_pads i s e h d = step_runs i (runs_inside i e h) ∙ rw (h, d)
@@ -187,16 +192,16 @@ module _ (S : Setting) (m : State) (mem : List ℕ) where
         → step S m mem ≡ resumed S (after_reti S m) previous age m.saved mem (after_reti S m).slot
     unfolding performed when◌then◌else◌
     step_returns previous age r =
-        step_acts Reti r.acting ∙ ap (λ (v : SavedContext). performed S m mem v Reti) r.holding
+        step_acts Reti r.acting ∙ ap (λ (v : Option SavedContext). performed S m mem v Reti) r.holding
 
     module _ (previous age s : ℕ) (r : Returns previous age) where
-      pub step_chains : (after_reti S m).slot ≡ At s
-          → step S m mem ≡ chained S (after_reti S m) (Held previous age) m.saved mem
+      pub step_chains : (after_reti S m).slot ≡ Some s
+          → step S m mem ≡ chained S (after_reti S m) (held_visit previous age) m.saved mem
       unfolding resumed
       step_chains e = step_returns previous age r ∙ ap (resumed S (after_reti S m) previous age m.saved mem) e
 
       -- a return, into whose padding a request breaks
-      pub step_pads_again : (after_reti S m).slot ≡ Never → due (after_return S m previous age) ≡ At s
+      pub step_pads_again : (after_reti S m).slot ≡ None → due (after_return S m previous age) ≡ Some s
           → step S m mem ≡ padded S s (after_return S m previous age) mem
       unfolding interrupted resumed
       step_pads_again e d =

@@ -1,4 +1,5 @@
 -- A step keeps memory's length, writes its own side only, and reads the reset vector after its writes. Assumes nothing.
+use Rattle.std.specs.Prelude.{Ok}
 use mathlib.Core.Path.{◌≡◌, refl, sym, ◌∙◌, ap, subst}
 use mathlib.Core.Logic.{◌≢◌}
 use mathlib.Core.Bool.{true, false, true≢false}
@@ -26,7 +27,6 @@ use Rattle.definition.specs.Registers.{register, pc, cleared}
 use Rattle.answers.specs.Outcome.{is_reset}
 use Rattle.definition.specs.Time.{emptied}
 use Rattle.definition.specs.State.{world}
-use Rattle.definition.specs.declared.judge.Judged.TheVariants.{Acts}
 use Rattle.definition.specs.Interrupt.{Step, reset, plain, padded, chained}
 use Rattle.definition.specs.Step.{judged, step}
 use Rattle.definition.specs.Laws.{LengthKept, WritesOwnSide, AfterReset, ResetAfterStore}
@@ -64,7 +64,7 @@ module _ (S : Setting) (m : State) (mem : List ℕ) where
         other = λ v a k. put_side S.layout v x b w a (λ f. n v (sym f ∙ sym k)) ∙ o.other v a k;
       }
 
-  pub acted_own : (i : Instruction) → judged S (world m mem) ≡ Acts i → Own (bytes m mem i)
+  pub acted_own : (i : Instruction) → judged S (world m mem) ≡ Ok i → Own (bytes m mem i)
   acted_own i e =
       kept_or_stored (λ (f : List ℕ → List ℕ). Own (f mem)) m.registers i kept_own λ b w h.
       let may_write_lem = (each_may S.layout _ Write b [] (rw h at (acts_writes S.layout _ _ mem _ i e))).0 in

@@ -1,11 +1,11 @@
 -- A request that fills the slot inside, or in return padding, reaches service exactly 12 cycles after its stamp. Assumes nothing.
+use Rattle.std.specs.Prelude.{None, Some}
 use mathlib.Core.Path.{◌≡◌, refl, sym, ◌∙◌, ap, subst}
 use mathlib.Core.List.{List}
 use Prim.Native.Nat.{ℕ, ◌+◌, ◌-◌, ◌≤◌, ◌<◌, min}
 use native.Mathlib.Omega.{arith}
 use Rattle.isa.specs.Cycles.{cycles_of}
 use Rattle.definition.specs.Setting.{Setting}
-use Rattle.definition.specs.declared.state.Stamp.TheVariants.{Never, At}
 use Rattle.definition.specs.declared.state.Time.{Time}
 use Rattle.definition.specs.declared.state.State.{State}
 use Rattle.answers.specs.declared.answer.Outcome.TheVariants.{Padded}
@@ -14,7 +14,7 @@ use Rattle.definition.specs.Interrupt.{Step, age_of, padded, back}
 use Rattle.definition.specs.Laws.{PassAdds, PaddedByStamp, PaddingSum, TwelveInside, TwelveInReturn}
 use Rattle.definition.proofs.time.PassLaws.{pass_adds, pass_clock, pass_filled}
 use Rattle.definition.proofs.instruction.InstructionLaws.{cycles_range}
-use Rattle.definition.proofs.step.StepLaws.{step_pads, step_pads_again, after_reti, after_return, next_inside}
+use Rattle.definition.proofs.step.StepLaws.{same_age, step_pads, step_pads_again, after_reti, after_return, next_inside}
 use Rattle.definition.proofs.step.GieLaws.{next_gie, at_due}
 use Rattle.definition.proofs.frame.FrameLaws.{held_framed}
 
@@ -36,14 +36,14 @@ padded_by_stamp S m mem t n s e l p h =
 pub padding_sum : PaddingSum
 unfolding PaddingSum padded back pass emptied age_of
 padding_sum S s m mem t previous age saved v =
-    let e : min (m.time.clock - s) 6 ≡ age = cc in omega arith
+    let e : min (m.time.clock - s) 6 ≡ age = same_age _ _ _ _ v in omega arith
 
 -- the step serves the stamp, 12 cycles after it
 abbrev Twelve : ℕ → Step → Type 0
 Twelve s z = (z.outcome ≡ Padded) × (z.state.time.clock ≡ s + 12)
 
 padded_twelve : (S : Setting) (m : State) (mem : List ℕ) (t : Time) (n s : ℕ)
-    → t.slot ≡ Never → n ≤ 6 → m.time ≡ pass S n t → m.time.slot ≡ At s → Twelve s (padded S s m mem)
+    → t.slot ≡ None → n ≤ 6 → m.time ≡ pass S n t → m.time.slot ≡ Some s → Twelve s (padded S s m mem)
 unfolding padded pass emptied age_of
 padded_twelve S m mem t n s e l p h =
     let w = pass_filled S n t s e (ap (λ (x : Time). x.slot) (sym p) ∙ h) in
