@@ -6,52 +6,59 @@ ghost use Rattle.storage.specs.Control.{with_registers};
 
 use alu::status::gie_is_set;
 use base::word::is_even;
-use definition::state::{SavedContext, Stamp, State};
+use definition::state::{SavedContext, State};
 use layout::sections::Layout;
 use storage::control::Control;
 
 // pc and sp are even, r3 is zero.
+#[tactic(auto, unfolding(base::specs::Test::all, definition::specs::Registers::register))]
 fn registers_fit(registers: &[u16; 16]) -> bool
     ensures { result ≡ framed_registers registers.now }
 {
-    is_even(registers[0]) && (is_even(registers[1]) && registers[3] == 0)
+    is_even(registers[0]) && is_even(registers[1]) && registers[3] == 0
 }
 
 // A slot stamp is not 0 and not above the clock.
-fn slot_fits(clock: u64, slot: Stamp) -> bool
+#[tactic(auto, unfolding(base::specs::Test::all, definition::specs::Registers::register))]
+fn slot_fits(clock: u64, slot: Option<u64>) -> bool
     ensures { result ≡ framed_slot clock slot }
 {
     match slot {
-        Stamp::Never => true,
-        Stamp::At(s) => 0 < s && s <= clock,
+        None => true,
+        Some(s) => 0 < s && s <= clock,
     }
 }
 
 // An alarm is above the clock.
-fn alarm_fits(clock: u64, alarm: Stamp) -> bool
+#[tactic(auto, unfolding(base::specs::Test::all, definition::specs::Registers::register))]
+fn alarm_fits(clock: u64, alarm: Option<u64>) -> bool
     ensures { result ≡ framed_alarm clock alarm }
 {
     match alarm {
-        Stamp::Never => true,
-        Stamp::At(s) => clock < s,
+        None => true,
+        Some(s) => clock < s,
     }
 }
 
 // A held visit's age is at most 6, its registers fit with GIE set, its previous address is inside and even.
-fn context_fits(layout: Layout, saved: &[u16; 16], context: SavedContext) -> bool
+#[tactic(auto, unfolding(base::specs::Test::all, definition::specs::Registers::register))]
+fn context_fits(layout: Layout, saved: &[u16; 16], context: Option<SavedContext>) -> bool
     ensures { result ≡ framed_context layout saved.now context }
 {
     match context {
-        SavedContext::Unheld => true,
-        SavedContext::Held { previous, age } => {
-            age <= 6
-                && (registers_fit(saved)
-                    && (gie_is_set(saved[2]) && (layout.inside(previous) && is_even(previous))))
+        None => true,
+        Some(visit) => {
+            visit.age <= 6
+                && registers_fit(saved)
+                && gie_is_set(saved[2])
+                && layout.inside(visit.previous)
+                && is_even(visit.previous)
         }
     }
 }
 
 // The state keeps the frame, with its registers and its saved registers lent.
+#[tactic(auto, unfolding(base::specs::Test::all, definition::specs::State::framed))]
 pub fn is_framed(control: Control, registers: &[u16; 16], saved: &[u16; 16], layout: Layout) -> bool
     ensures { (stamps : List ℕ) → result ≡ framed (setting_of layout stamps) (with_registers registers.now saved.now control) }
 {
@@ -60,12 +67,14 @@ pub fn is_framed(control: Control, registers: &[u16; 16], saved: &[u16; 16], lay
     let slot = time.slot;
     let alarm = time.alarm;
     registers_fit(registers)
-        && (is_even(control.previous)
-            && (slot_fits(time.clock, slot)
-                && (alarm_fits(time.clock, alarm) && context_fits(layout, saved, context))))
+        && is_even(control.previous)
+        && slot_fits(time.clock, slot)
+        && alarm_fits(time.clock, alarm)
+        && context_fits(layout, saved, context)
 }
 
 // The state keeps the frame.
+#[tactic(auto, unfolding(base::specs::Test::all, definition::specs::Registers::register))]
 pub fn state_is_framed(m: State, layout: Layout) -> bool
     ensures { (stamps : List ℕ) → result ≡ framed (setting_of layout stamps) m }
 {

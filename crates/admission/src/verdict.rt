@@ -10,7 +10,6 @@ ghost use Rattle.storage.specs.Control.{with_registers};
 use crate::frame::{is_framed, state_is_framed};
 use base::limits::{LAST_CLOCK, MEMORY_BYTES, MOST_BUDGET};
 use base::refusal::Refusal;
-use base::verdict::Verdict;
 use clock::timetable::is_timetable;
 use definition::state::State;
 use layout::sections::Layout;
@@ -38,6 +37,7 @@ fn budget_allowed(budget: u64) -> bool
 }
 
 // The first of the tests 1 to 6 that fails.
+#[tactic(auto, unfolding(base::specs::FirstFailure::first_failure, base::specs::Test::all))]
 fn first_refusal(
     whole: bool,
     fence: bool,
@@ -45,28 +45,28 @@ fn first_refusal(
     frame: bool,
     near: bool,
     early: bool,
-) -> Verdict
+) -> Result<(), Refusal>
     ensures { result ≡ verdict (tests_found whole fence rising frame (budget_tests near) early) }
 {
     if !whole {
-        return Verdict::Refused(Refusal::Map);
+        return Err(Refusal::Map);
     }
     if !fence {
-        return Verdict::Refused(Refusal::Fence);
+        return Err(Refusal::Fence);
     }
     if !rising {
-        return Verdict::Refused(Refusal::Timetable);
+        return Err(Refusal::Timetable);
     }
     if !frame {
-        return Verdict::Refused(Refusal::Frame);
+        return Err(Refusal::Frame);
     }
     if !near {
-        return Verdict::Refused(Refusal::Distance);
+        return Err(Refusal::Distance);
     }
     if !early {
-        return Verdict::Refused(Refusal::Clock);
+        return Err(Refusal::Clock);
     }
-    Verdict::Taken
+    Ok(())
 }
 
 // The first test of a run that fails.
@@ -78,7 +78,7 @@ pub fn judge_run(
     layout: Layout,
     stamps: &[u64],
     budget: u64,
-) -> Verdict
+) -> Result<(), Refusal>
     ensures { result ≡ verdict (run_tests (setting_of layout stamps.now) budget (world (with_registers registers.now saved.now control) mem.now)) }
 {
     first_refusal(
@@ -98,7 +98,7 @@ pub fn judge_transcript(
     layout: Layout,
     stamps: &[u64],
     budget: u64,
-) -> Verdict
+) -> Result<(), Refusal>
     ensures { result ≡ verdict (transcript_tests (setting_of layout stamps.now) budget (world m mem.now)) }
 {
     first_refusal(
@@ -119,7 +119,7 @@ pub fn judge_step(
     mem: &[u8],
     layout: Layout,
     stamps: &[u64],
-) -> Verdict
+) -> Result<(), Refusal>
     ensures { result ≡ verdict (step_tests (setting_of layout stamps.now) (world (with_registers registers.now saved.now control) mem.now)) }
 {
     first_refusal(

@@ -1,31 +1,33 @@
 -- The earliest stamp of a timetable that happens is the upcoming one, if it happens. Assumes nothing.
-use Rattle.std.proofs.Common.{◌≡◌, ℕ, zero, suc, ◌+◌, ◌<◌, ◌≤◌, true, eqb, ltb, leb, List, [], ◌∷◌, length, get_or, refl, arith, ltb-false, ltb-true, le-ltb, lt-ltb, eqb-true, le-leb, leb-false}
-use borrow.Author.Tests.{eqb-false, lt-leb}
+use Rattle.std.proofs.Common.{◌≡◌, ℕ, zero, suc, ◌+◌, ◌-◌, ◌<◌, ◌≤◌, true, ltb, leb, List, [], ◌∷◌, length, get_or, drop, refl, sym, ap, ◌∙◌, arith, ltb-false, ltb-true, le-ltb, lt-ltb, le-leb, leb-true, leb-false, length-drop, get_or-drop, Option, None, Some}
+use Rattle.std.specs.List.{prefix_len}
+use Rattle.std.proofs.lemmas.Bool.{lt-leb}
+use Rattle.std.proofs.lemmas.List.Sums.{prefix_len_passes, prefix_len_stops}
 use Rattle.base.specs.Test.{when◌then◌else◌, all}
 use Rattle.base.proofs.Tests.{cases}
-use Rattle.definition.specs.declared.state.Stamp.{Stamp}
-use Rattle.definition.specs.declared.state.Stamp.TheVariants.{Never, At}
 use Rattle.definition.specs.Time.{happening, earlier, earliest}
 use Rattle.definition.specs.Calls.{rising_from, timetable}
-use Rattle.clock.specs.Upcoming.{stamp_at, StampsPassed, IsUpcoming, CanPass}
+use Rattle.clock.specs.declared.time.Requests.{Requests}
+use Rattle.clock.specs.Upcoming.{stamp_at, StampsPassed, IsUpcoming}
+use Rattle.clock.specs.Requests.{CanPass}
 use Rattle.definition.proofs.time.TimetableLaws.{rising_cons, rising_order, timetable_rising}
 
 -- ---- the earliest stamp
 
 -- no stamp is later than any
-earlier_never : (x : Stamp) → earlier x Never ≡ x
+earlier_never : (x : Option ℕ) → earlier x None ≡ x
 unfolding earlier
-earlier_never Never = refl
-earlier_never (At s) = refl
+earlier_never None = refl
+earlier_never (Some s) = refl
 
 module _ (a b : ℕ) where
   -- a stamp that the clock has passed does not happen
-  pub passed_by : (s : ℕ) → s ≤ a → happening a b (At s) ≡ Never
+  pub passed_by : (s : ℕ) → s ≤ a → happening a b (Some s) ≡ None
   unfolding happening all when◌then◌else◌
   passed_by s h = rw (le-ltb a s h)
 
   -- of two stamps that are still to happen, the later changes nothing
-  sooner : (s t : ℕ) → a < s → s < t → earlier (happening a b (At s)) (happening a b (At t)) ≡ happening a b (At s)
+  sooner : (s t : ℕ) → a < s → s < t → earlier (happening a b (Some s)) (happening a b (Some t)) ≡ happening a b (Some s)
   unfolding happening earlier all when◌then◌else◌
   sooner s t h k =
       cases (leb s b)
@@ -36,9 +38,9 @@ module _ (a b : ℕ) where
       (λ e. simp (lt-ltb a s h, lt-ltb a t (omega arith), e, lt-leb t b (omega (arith, leb-false s b e))))
 
   -- the first of stamps that rise and are still to happen is the earliest
-  soonest : (s : ℕ) (stamps : List ℕ) → a < s → rising_from s stamps ≡ true → earliest a b (s ∷ stamps) ≡ happening a b (At s)
+  soonest : (s : ℕ) (stamps : List ℕ) → a < s → rising_from s stamps ≡ true → earliest a b (s ∷ stamps) ≡ happening a b (Some s)
   unfolding earliest
-  soonest s [] h r = earlier_never (happening a b (At s))
+  soonest s [] h r = earlier_never (happening a b (Some s))
   soonest s (t ∷ stamps) h r =
       let k = rising_cons s t stamps r in
       rw (soonest t stamps (omega arith) k.1) (sooner s t h k.0)
@@ -46,11 +48,11 @@ module _ (a b : ℕ) where
 -- ---- the index of the upcoming stamp
 
 -- the stamp at an index of no stamps, at the first index, at a later one
-stamp_none : (upcoming : ℕ) → stamp_at [] upcoming ≡ Never
+stamp_none : (upcoming : ℕ) → stamp_at [] upcoming ≡ None
 unfolding stamp_at when◌then◌else◌
 stamp_none upcoming = rw (le-ltb upcoming 0 (omega arith))
 
-stamp_first : (s : ℕ) (stamps : List ℕ) → stamp_at (s ∷ stamps) 0 ≡ At s
+stamp_first : (s : ℕ) (stamps : List ℕ) → stamp_at (s ∷ stamps) 0 ≡ Some s
 unfolding stamp_at when◌then◌else◌
 stamp_first s stamps = rw (lt-ltb 0 (suc (length stamps)) (omega arith))
 
@@ -96,35 +98,54 @@ module _ (stamps : List ℕ) (clock upcoming : ℕ) where
   passed_later later h p =
       record { fits = p.passed.fits; gone = λ i k. let g = p.passed.gone i k in omega arith }
 
-  module _ (p : StampsPassed stamps clock upcoming) where
-    -- one stamp further
-    pub passed_next : upcoming < length stamps → get_or stamps upcoming 0 ≤ clock → StampsPassed stamps clock (upcoming + 1)
-    passed_next h k =
+  -- the stamps further on that the clock has passed are counted: what is behind them is upcoming
+  module _ (k : ℕ) (e : k ≡ prefix_len (λ stamp. leb stamp clock) (drop upcoming stamps)) (p : StampsPassed stamps clock upcoming) where
+    ahead : List ℕ
+    ahead = drop upcoming stamps
+
+    -- one of those that are counted
+    counted : (i : ℕ) → i < k → get_or stamps (upcoming + i) 0 ≤ clock
+    unfolding ahead
+    counted i h =
+        leb-true _ _ (ap (λ (s : ℕ). leb s clock) (sym (get_or-drop upcoming stamps i 0)) ∙ prefix_len_passes (λ stamp. leb stamp clock) ahead i 0 (rw (sym e) h))
+
+    -- the one behind them
+    not_counted : upcoming + k < length stamps → clock < get_or stamps (upcoming + k) 0
+    unfolding ahead
+    not_counted h =
+        let l : k < length ahead = rw length-drop (omega arith) in
+        leb-false _ _ (ap (λ (s : ℕ). leb s clock) (sym (get_or-drop upcoming stamps k 0))
+        ∙ ap (λ (j : ℕ). leb (get_or ahead j 0) clock) e ∙ prefix_len_stops (λ stamp. leb stamp clock) ahead 0 (rw (sym e) l))
+
+    pub upcoming_counted : timetable stamps ≡ true → upcoming + k ≤ length stamps → IsUpcoming stamps clock (upcoming + k)
+    upcoming_counted t f =
         record {
-          fits = omega arith;
-          gone = λ i m.
-              cases (eqb i upcoming)
-              (λ e. let f = eqb-true i upcoming e in rw f k)
-              (λ e. let f = eqb-false i upcoming e in p.gone i (omega arith));
+          passed = record {
+            fits = f;
+            gone = λ i h.
+                cases (ltb i upcoming)
+                (λ b. p.gone i (ltb-true i upcoming b))
+                (λ b.
+                let o = ltb-false i upcoming b in
+                let j : upcoming + (i - upcoming) ≡ i = omega arith in
+                let c = counted (i - upcoming) (omega arith) in
+                rw j at c);
+          };
+          ahead = λ i h m.
+              let n = not_counted (omega arith) in
+              let o = rising_order 0 stamps (upcoming + k) i (timetable_rising stamps t) h m in
+              omega arith;
         }
 
-    -- an index is that of the upcoming stamp where its stamp is above the clock, and at the end
-    pub upcoming_here : timetable stamps ≡ true → clock < get_or stamps upcoming 0 → IsUpcoming stamps clock upcoming
-    upcoming_here t h =
-        record {
-          passed = p;
-          ahead = λ i k m. let o = rising_order 0 stamps upcoming i (timetable_rising stamps t) k m in omega arith;
-        }
-
-    pub upcoming_end : length stamps ≤ upcoming → IsUpcoming stamps clock upcoming
-    upcoming_end h = record { passed = p; ahead = λ i k m. absurd (omega arith) }
+-- no stamp stands before the first
+pub none_passed : (stamps : List ℕ) (clock : ℕ) → StampsPassed stamps clock 0
+none_passed stamps clock = record { fits = omega arith; gone = λ i h. absurd (omega arith) }
 
 -- cycles that can pass from here on, later and fewer
-pub can_pass_later : {stamps : List ℕ} {clock upcoming n : ℕ} → CanPass stamps clock upcoming n → (later m : ℕ) → clock ≤ later
-    → later + m ≤ clock + n → CanPass stamps later upcoming m
-can_pass_later r later m h k =
+pub can_pass_later : {r : Requests} {clock n : ℕ} → CanPass r clock n → (later m : ℕ) → clock ≤ later → later + m ≤ clock + n
+    → CanPass r later m
+can_pass_later c later m h k =
     record {
-      timed = r.timed;
-      passed = record { fits = r.passed.fits; gone = λ i j. let g = r.passed.gone i j in omega arith };
-      room = let o = r.room in omega arith;
+      passed = record { fits = c.passed.fits; gone = λ i j. let g = c.passed.gone i j in omega arith };
+      room = let o = c.room in omega arith;
     }

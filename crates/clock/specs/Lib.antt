@@ -1,2 +1,3 @@
 pub mod Upcoming
+pub mod Requests
 pub mod NoEvent

@@ -1,13 +1,10 @@
 -- The upcoming stamp of a timetable, by its index: the first that is above the clock.
-use Rattle.std.specs.Prelude.{◌≡◌, ℕ, ◌+◌, ◌^◌, ◌<◌, ◌≤◌, true, List, length, nat_lt, slice_index}
+use Rattle.std.specs.Prelude.{ℕ, ◌^◌, ◌<◌, ◌≤◌, List, length, nat_lt, slice_index, Option, None, Some}
 use Rattle.base.specs.Test.{when◌then◌else◌}
-use Rattle.definition.specs.declared.state.Stamp.{Stamp}
-use Rattle.definition.specs.declared.state.Stamp.TheVariants.{Never, At}
-use Rattle.definition.specs.Calls.{timetable}
 
 -- the stamp at an index, if there is one
-unfoldable pub stamp_at : List ℕ → ℕ → Stamp
-stamp_at stamps upcoming = when nat_lt upcoming (length stamps) then At (slice_index stamps upcoming) else Never
+unfoldable pub stamp_at : List ℕ → ℕ → Option ℕ
+stamp_at stamps upcoming = when nat_lt upcoming (length stamps) then Some (slice_index stamps upcoming) else None
 
 -- the clock has passed the stamps before this index: none of them is above it
 pub record StampsPassed (stamps : List ℕ) (clock upcoming : ℕ) : Type 0 where
@@ -26,9 +23,3 @@ clock_room = 2 ^ 63
 -- room for one step: RETI's 5 cycles, an age of 8 bits, 12 of a padded service; from a state that keeps the frame 23 are enough
 abbrev pub step_room : ℕ
 step_room = 300
-
--- n cycles can pass: of a timetable, from an index before which the clock has passed all stamps, within the clock's room
-pub record CanPass (stamps : List ℕ) (clock upcoming n : ℕ) : Type 0 where
-  pub timed : timetable stamps ≡ true
-  pub passed : StampsPassed stamps clock upcoming
-  pub room : clock + n ≤ clock_room

@@ -1,15 +1,16 @@
 // The clock, the requests and the pending slot that takes them.
-ghost use Rattle.std.specs.Prelude.{◌≡◌, ◌+◌, ◌≤◌, true, false};
+ghost use Rattle.std.specs.Prelude.{◌≡◌, ◌+◌, ◌≤◌, true, false, length, nat_le};
+ghost use Rattle.std.specs.List.{prefix_len};
 ghost use Rattle.base.specs.Limits.{last_clock};
 ghost use Rattle.layout.specs.declared.sections.Layout.{Layout};
-ghost use Rattle.definition.specs.Setting.{Setting, setting_of};
+ghost use Rattle.definition.specs.Setting.{Setting};
 ghost use Rattle.definition.specs.Time.{start_time, happens, happening, earlier, filled_by, alarm_left, emptied, set_alarm, device_word, pass};
-ghost use Rattle.definition.specs.Calls.{timetable};
-ghost use Rattle.clock.specs.Upcoming.{stamp_at, StampsPassed, IsUpcoming, clock_room, CanPass};
-ghost use Rattle.clock.specs.NoEvent.{NotHappeningUntil, NoEventUntil};
+ghost use Rattle.clock.specs.Upcoming.{clock_room};
+ghost use Rattle.clock.specs.NoEvent.{NotHappeningUntil};
 
+use crate::timetable::Timetable;
 use base::limits::LAST_CLOCK;
-use definition::state::{Stamp, Time};
+use definition::state::Time;
 
 // The clock at the start, with no request pending and no alarm.
 pub fn start_time() -> Time
@@ -17,8 +18,8 @@ pub fn start_time() -> Time
 {
     Time {
         clock: 0,
-        slot: Stamp::Never,
-        alarm: Stamp::Never,
+        slot: None,
+        alarm: None,
     }
 }
 
@@ -30,127 +31,56 @@ fn happens(a: u64, b: u64, stamp: u64) -> bool
 }
 
 // The stamp, if it happens while the clock passes from a to b.
-fn happening(a: u64, b: u64, stamp: Stamp) -> Stamp
+#[tactic(auto, unfolding(definition::specs::Time::happening, base::specs::Test::all))]
+fn happening(a: u64, b: u64, stamp: Option<u64>) -> Option<u64>
     ensures { result ≡ happening a b stamp }
 {
-    match stamp {
-        Stamp::Never => Stamp::Never,
-        Stamp::At(s) => {
-            if happens(a, b, s) {
-                return Stamp::At(s);
-            }
-            Stamp::Never
-        }
-    }
+    stamp.filter(|&s| happens(a, b, s))
 }
 
 // The earlier of two.
-fn earlier(one: Stamp, other: Stamp) -> Stamp
+#[tactic(auto, using(base::proofs::Tests::choices), unfolding(definition::specs::Time::earlier))]
+fn earlier(one: Option<u64>, other: Option<u64>) -> Option<u64>
     ensures { result ≡ earlier one other }
 {
-    match one {
-        Stamp::Never => other,
-        Stamp::At(s) => match other {
-            Stamp::Never => Stamp::At(s),
-            Stamp::At(t) => {
-                let sooner = s <= t;
-                if sooner {
-                    return Stamp::At(s);
-                }
-                Stamp::At(t)
-            }
-        },
-    }
+    let (Some(s), Some(t)) = (one, other) else {
+        return one.or(other);
+    };
+    let sooner = s <= t;
+    if sooner { one } else { other }
 }
 
 // The slot, if empty, takes the request.
-fn filled_by(slot: Stamp, request: Stamp) -> Stamp
+#[tactic(auto, unfolding(definition::specs::Time::filled_by))]
+fn filled_by(slot: Option<u64>, request: Option<u64>) -> Option<u64>
     ensures { result ≡ filled_by slot request }
 {
-    match slot {
-        Stamp::Never => request,
-        Stamp::At(s) => Stamp::At(s),
-    }
+    slot.or(request)
 }
 
 // The alarm clears when it happens.
-fn alarm_left(a: u64, b: u64, alarm: Stamp) -> Stamp
+#[tactic(auto, unfolding(definition::specs::Time::alarm_left, base::specs::Test::all))]
+fn alarm_left(a: u64, b: u64, alarm: Option<u64>) -> Option<u64>
     ensures { result ≡ alarm_left a b alarm }
 {
-    match alarm {
-        Stamp::Never => Stamp::Never,
-        Stamp::At(s) => {
-            if happens(a, b, s) {
-                return Stamp::Never;
-            }
-            Stamp::At(s)
-        }
-    }
+    alarm.filter(|&s| !happens(a, b, s))
 }
 
-// The stamp at the index, if there is one.
-fn stamp_at(stamps: &[u64], upcoming: usize) -> Stamp
-    ensures { result ≡ stamp_at stamps.now upcoming }
+// How many of the stamps, from the first on, the clock has passed.
+fn count_passed(stamps: &[u64], clock: u64) -> usize
+    ensures count { result ≡ prefix_len (λ stamp. nat_le stamp clock) stamps.now }
+    ensures within { result ≤ length stamps.now }
 {
-    if upcoming < stamps.len() {
-        return Stamp::At(stamps[upcoming]);
-    }
-    Stamp::Never
-}
-
-// The index of the upcoming stamp, looked for from an earlier one on: the stamps before it are not above the clock, the others are.
-pub fn skip_passed(stamps: &[u64], upcoming: usize, clock: u64) -> usize
-    ensures { timetable stamps.now ≡ true → StampsPassed stamps.now clock upcoming → IsUpcoming stamps.now clock result }
-{
-    let mut i = upcoming;
-    while i < stamps.len() {
-        if clock < stamps[i] {
-            return i;
-        }
-        i += 1;
-    }
-    i
-}
-
-// The index of the upcoming stamp.
-pub fn find_upcoming(stamps: &[u64], clock: u64) -> usize
-    ensures { timetable stamps.now ≡ true → IsUpcoming stamps.now clock result }
-{
-    skip_passed(stamps, 0, clock)
-}
-
-// n cycles pass, with the index of the upcoming stamp: the only thing that moves the clock, fills the slot and rings the alarm.
-fn pass(t: Time, stamps: &[u64], upcoming: usize, n: u64) -> Time
-    ensures { (L : Layout) → t.clock + n ≤ clock_room → timetable stamps.now ≡ true → IsUpcoming stamps.now t.clock upcoming → result ≡ pass (setting_of L stamps.now) n t }
-{
-    let a = t.clock;
-    let b = std::num::wrapping_add_u64(a, n);
-    let slot = t.slot;
-    let alarm = t.alarm;
-    let next = stamp_at(stamps, upcoming);
-    let request = earlier(happening(a, b, next), happening(a, b, alarm));
-    Time {
-        clock: b,
-        slot: filled_by(slot, request),
-        alarm: alarm_left(a, b, alarm),
-    }
-}
-
-// n cycles pass, from an index before which the clock has passed all stamps.
-pub fn wait(t: Time, stamps: &[u64], upcoming: usize, n: u64) -> Time
-    ensures { (L : Layout) → CanPass stamps.now t.clock upcoming n → result ≡ pass (setting_of L stamps.now) n t }
-{
-    let next = skip_passed(stamps, upcoming, t.clock);
-    pass(t, stamps, next, n)
+    stamps.iter().take_while(|&&stamp| stamp <= clock).count()
 }
 
 // The last clock value up to which a request does not happen: just before it, if it is still to happen.
-fn before_stamp(clock: u64, stamp: Stamp, until: u64) -> u64
+fn before_stamp(clock: u64, stamp: Option<u64>, until: u64) -> u64
     ensures { (result ≤ until) × NotHappeningUntil clock stamp result }
 {
     match stamp {
-        Stamp::Never => until,
-        Stamp::At(s) => {
+        None => until,
+        Some(s) => {
             if s <= clock {
                 return until;
             }
@@ -163,7 +93,8 @@ fn before_stamp(clock: u64, stamp: Stamp, until: u64) -> u64
 }
 
 // While a request is pending others merge into it, so only the alarm counts; 0 where interrupts are not masked.
-fn alarm_until(masked: bool, clock: u64, alarm: Stamp) -> u64
+// No Option: 0 is a clock value like any other, which no step ends at or before, and nobody asks whether it is 0.
+fn alarm_until(masked: bool, clock: u64, alarm: Option<u64>) -> u64
     ensures { (result ≤ last_clock) × NotHappeningUntil clock alarm result × (masked ≡ false → result ≡ 0) }
 {
     if masked {
@@ -172,32 +103,12 @@ fn alarm_until(masked: bool, clock: u64, alarm: Stamp) -> u64
     0
 }
 
-// A clock value up to which time only goes on and no interrupt is due, at most 2^62; 0 where there is none.
-pub fn no_event_until(halted: bool, masked: bool, t: Time, stamps: &[u64], upcoming: usize) -> u64
-    ensures { (L : Layout) → timetable stamps.now ≡ true → IsUpcoming stamps.now t.clock upcoming → NoEventUntil (setting_of L stamps.now) masked t result × (halted ≡ true → result ≡ 0) }
-{
-    let slot = t.slot;
-    let alarm = t.alarm;
-    if halted {
-        return 0;
-    }
-    match slot {
-        Stamp::At(_) => alarm_until(masked, t.clock, alarm),
-        Stamp::Never => {
-            let until = before_stamp(t.clock, alarm, LAST_CLOCK);
-            before_stamp(t.clock, stamp_at(stamps, upcoming), until)
-        }
-    }
-}
-
 // The slot empties.
+#[tactic(auto, unfolding(definition::specs::Time::emptied))]
 pub fn emptied(t: Time) -> Time
     ensures { result ≡ emptied t }
 {
-    Time {
-        slot: Stamp::Never,
-        ..t
-    }
+    Time { slot: None, ..t }
 }
 
 // OUT of w: the alarm is set to clock + w, replacing any; 0 clears it.
@@ -205,20 +116,109 @@ pub fn set_alarm(t: Time, w: u16) -> Time
     ensures { t.clock ≤ clock_room → result ≡ set_alarm w t }
 {
     if w == 0 {
-        return Time {
-            alarm: Stamp::Never,
-            ..t
-        };
+        return Time { alarm: None, ..t };
     }
     Time {
-        alarm: Stamp::At(std::num::wrapping_add_u64(t.clock, w as u64)),
+        alarm: Some(t.clock.wrapping_add(w as u64)),
         ..t
     }
 }
 
 // What IN gives: the clock's low 16 bits.
+#[tactic(auto, unfolding(definition::specs::Time::device_word))]
 pub fn device_word(t: Time) -> u16
     ensures { (S : Setting) → result ≡ device_word S t }
 {
     (t.clock % 65536) as u16
+}
+
+// The requests of a timetable, with the index of the upcoming one: the clock has passed the stamps before it.
+#[derive(Clone, Copy)]
+pub struct Requests<'a> {
+    pub timetable: Timetable<'a>,
+    pub upcoming: usize,
+    pub ghost within: { upcoming ≤ length timetable.stamps.now },
+}
+
+impl<'a> Timetable<'a> {
+    ghost use Rattle.clock.specs.Requests.{AtClock};
+
+    // The requests at a clock value: the upcoming one is looked for from the first on.
+    pub fn requests_at(self, clock: u64) -> Requests<'a>
+        ensures timetable { result.timetable ≡ self.entry }
+        ensures upcoming { AtClock result clock }
+    {
+        Requests {
+            timetable: self,
+            upcoming: count_passed(self.stamps, clock),
+        }
+    }
+}
+
+impl<'a> Requests<'a> {
+    ghost use Rattle.clock.specs.Upcoming.{stamp_at, StampsPassed};
+    ghost use Rattle.clock.specs.NoEvent.{NoEventUntil};
+    ghost use Rattle.clock.specs.Requests.{setting_with, HasPassed, AtClock, CanPass};
+
+    // The stamp of the upcoming request, if there is one.
+    #[tactic(auto, using(base::proofs::Tests::choices), unfolding(crate::specs::Upcoming::stamp_at))]
+    fn stamp(self) -> Option<u64>
+        ensures { result ≡ stamp_at self.entry.timetable.stamps.now self.entry.upcoming }
+    {
+        self.timetable.stamps.get(self.upcoming).copied()
+    }
+
+    // The requests at a later clock value: the upcoming one is looked for from here on.
+    pub fn at(self, clock: u64) -> Requests<'a>
+        ensures timetable { result.timetable ≡ self.entry.timetable }
+        ensures upcoming { HasPassed self.entry clock → AtClock result clock }
+    {
+        let stamps = self.timetable.stamps;
+        Requests {
+            timetable: self.timetable,
+            upcoming: self.upcoming + count_passed(&stamps[self.upcoming..], clock),
+        }
+    }
+
+    // n cycles pass, with the upcoming stamp: the only thing that moves the clock, fills the slot and rings the alarm.
+    fn pass(self, t: Time, n: u64) -> Time
+        ensures { (L : Layout) → t.clock + n ≤ clock_room → AtClock self.entry t.clock → result ≡ pass (setting_with L self.entry) n t }
+    {
+        let a = t.clock;
+        let b = a.wrapping_add(n);
+        let slot = t.slot;
+        let alarm = t.alarm;
+        let next = self.stamp();
+        let request = earlier(happening(a, b, next), happening(a, b, alarm));
+        Time {
+            clock: b,
+            slot: filled_by(slot, request),
+            alarm: alarm_left(a, b, alarm),
+        }
+    }
+
+    // n cycles pass, from an index before which the clock has passed all stamps.
+    pub fn wait(self, t: Time, n: u64) -> Time
+        ensures { (L : Layout) → CanPass self.entry t.clock n → result ≡ pass (setting_with L self.entry) n t }
+    {
+        self.at(t.clock).pass(t, n)
+    }
+
+    // A clock value up to which time only goes on and no interrupt is due, at most 2^62; 0 where there is none (see `alarm_until`).
+    pub fn no_event_until(self, halted: bool, masked: bool, t: Time) -> u64
+        ensures { (L : Layout) → AtClock self.entry t.clock → NoEventUntil (setting_with L self.entry) masked t result × (halted ≡ true → result ≡ 0) }
+    {
+        let slot = t.slot;
+        let alarm = t.alarm;
+        if halted {
+            return 0;
+        }
+        match slot {
+            Some(_) => alarm_until(masked, t.clock, alarm),
+            None => {
+                let until = before_stamp(t.clock, alarm, LAST_CLOCK);
+                before_stamp(t.clock, self.stamp(), until)
+            }
+        }
+    }
 }

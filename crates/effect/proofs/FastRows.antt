@@ -1,12 +1,6 @@
 -- What a fast answer promises, and that each row of instruction words keeps it. Assumes nothing.
-use mathlib.Core.Path.{◌≡◌, refl, sym, ◌∙◌, ap}
-use mathlib.Core.Bool.{Bool, true, false, not, true≢false}
-use mathlib.Core.List.{List}
-use Prim.Native.Nat.{ℕ, ◌≤◌, ◌<◌}
-use native.Mathlib.Omega.{arith}
-use lib.Dec.{ltb, eqb}
-use lib.ListN.{set}
-use borrow.Author.Tests.{ltb-false, ne_eqb, not-false}
+use Rattle.std.proofs.Common.{◌≡◌, refl, sym, ◌∙◌, ap, Bool, true, false, not, true≢false, List, set, ℕ, ◌≤◌, ◌<◌, arith, ltb, eqb, Option, None, Some, Ok}
+use Rattle.std.proofs.lemmas.Bool.{ltb-false, ne_eqb, not-false}
 use Rattle.base.specs.Test.{when◌then◌else◌}
 use Rattle.base.specs.Word.{drop_bit0}
 use Rattle.base.proofs.Tests.{every, when_true, when_false, choose}
@@ -15,13 +9,11 @@ use Rattle.rows.specs.declared.row.Operation.TheVariants.{Add, Sub, Cmp, And}
 use Rattle.rows.specs.declared.row.Row.{Row}
 use Rattle.rows.specs.declared.row.Row.TheVariants.{Jz as JZ, Nop as NOP, Jmp as JMP, Mov as MOV, Load as LOAD, Store as STORE, Immediate as IMMEDIATE, Compute as COMPUTE}
 use Rattle.rows.specs.declared.read.Begun.{Begun}
-use Rattle.rows.specs.declared.read.Begun.TheVariants.{Found}
-use Rattle.rows.specs.Words.{two_words}
+use Rattle.rows.specs.Words.{found, two_words}
 use Rattle.isa.specs.declared.instruction.Operand.TheVariants.{Register, Pointed, Constant}
 use Rattle.isa.specs.declared.instruction.Instruction.{Instruction}
 use Rattle.isa.specs.declared.instruction.Instruction.TheVariants.{Jz, Nop, Jmp, Mov, Store, Compute}
-use Rattle.isa.specs.declared.read.Reading.TheVariants.{Decoded}
-use Rattle.isa.specs.Words.{finished}
+use Rattle.isa.specs.Words.{decoded, finished}
 use Rattle.isa.specs.Cycles.{cycles_of, length_of}
 use Rattle.alu.specs.Arithmetic.{computed}
 use Rattle.alu.specs.Status.{gie, zero as zero_set}
@@ -32,10 +24,7 @@ use Rattle.layout.specs.declared.access.Right.TheVariants.{Read as read, Write a
 use Rattle.rows.specs.Table.{pointer}
 use Rattle.layout.specs.Sections.{same_side}
 use Rattle.layout.specs.Access.{may}
-use Rattle.definition.specs.declared.judge.Judged.TheVariants.{Acts}
 use Rattle.effect.specs.declared.effect.Effect.{Effect}
-use Rattle.effect.specs.declared.effect.Speed.{Speed}
-use Rattle.effect.specs.declared.effect.Speed.TheVariants.{Slow, Fast}
 use Rattle.definition.specs.Memory.{word_at}
 use Rattle.definition.specs.Registers.{register, pc, sr, write as write_register}
 use Rattle.definition.specs.Judge.{reads, writes, all_may, privileged, is_reti, judge_act, judge_words, judge_second, judge_first}
@@ -60,47 +49,47 @@ points n h =
 module _ (L : Layout) (held : Bool) (rs mem : List ℕ) where
   -- an instruction acts that is neither barred inside nor RETI
   acting : (i : Instruction) → privileged i ≡ false → is_reti i ≡ false → all_may L (pc rs) read (reads rs i) ≡ true
-      → all_may L (pc rs) write (writes rs i) ≡ true → judge_act L held rs i ≡ Acts i
+      → all_may L (pc rs) write (writes rs i) ≡ true → judge_act L held rs i ≡ Ok i
   unfolding judge_act
   acting i p r h k =
       when_false _ _ _ (second_fails _ _ p) ∙ when_false _ _ _ (second_fails held _ r) ∙ when_false _ _ _ (ap not h)
       ∙ when_false _ _ _ (ap not k)
 
   -- what is begun acts, and the effect is what it does
-  pub record Acting (b : Begun) (x y : ℕ) (e : Effect) : Type 0 where
+  pub record Acting (b : Option Begun) (x y : ℕ) (e : Effect) : Type 0 where
     pub instruction : Instruction
-    pub acts : judge_first L held rs mem b ≡ Acts instruction
+    pub acts : judge_first L held rs mem b ≡ Ok instruction
     pub unbarred : privileged instruction ≡ false
     pub other : is_reti instruction ≡ false
     pub sets : (t : Bool) (device : ℕ) → registers_after t rs device mem instruction ≡ affected e rs
     pub puts : memory_after rs mem instruction ≡ put_if e.puts mem y x
     pub takes : cycles_of instruction ≡ e.cycles
-    pub decodes : finished b (word_at mem (second_address (pc rs))) ≡ Decoded instruction (length_of instruction)
+    pub decodes : finished b (word_at mem (second_address (pc rs))) ≡ decoded instruction (length_of instruction)
     pub leads : jumps (sr rs) instruction ≡ false → e.to ≡ address_past (pc rs) instruction
     pub digit : e.number < 16
     pub general : 2 ≡ e.number → ⊥
     pub gie_kept : gie e.status ≡ gie (sr rs)
 
   -- nothing is promised of what is left to the step
-  abbrev pub EffectAgrees : Begun → ℕ → ℕ → Speed → Type 0
-  EffectAgrees b x y Slow = Unit {0}
-  EffectAgrees b x y (Fast e) = Acting b x y e
+  abbrev pub EffectAgrees : Option Begun → ℕ → ℕ → Option Effect → Type 0
+  EffectAgrees b x y None = Unit {0}
+  EffectAgrees b x y (Some e) = Acting b x y e
 
   -- what is fast only where a test fails, or holds
-  pub unless : (b : Begun) (x y : ℕ) (t : Bool) (q : Speed) → (t ≡ false → EffectAgrees b x y q) → EffectAgrees b x y (when t then Slow else q)
+  pub unless : (b : Option Begun) (x y : ℕ) (t : Bool) (q : Option Effect) → (t ≡ false → EffectAgrees b x y q) → EffectAgrees b x y (when t then None else q)
   unfolding when◌then◌else◌
   unless b x y true q p = tt
   unless b x y false q p = p refl
 
-  pub provided : (b : Begun) (x y : ℕ) (t : Bool) (q : Speed) → (t ≡ true → EffectAgrees b x y q) → EffectAgrees b x y (when t then q else Slow)
+  pub provided : (b : Option Begun) (x y : ℕ) (t : Bool) (q : Option Effect) → (t ≡ true → EffectAgrees b x y q) → EffectAgrees b x y (when t then q else None)
   unfolding when◌then◌else◌
   provided b x y true q p = p refl
   provided b x y false q p = tt
 
   module _ (s d x y : ℕ) (small : d < 16) where
     -- what is begun with these registers
-    abbrev Fine : Row → Speed → Type 0
-    Fine row q = EffectAgrees (Found row s d) x y q
+    abbrev Fine : Row → Option Effect → Type 0
+    Fine row q = EffectAgrees (found row s d) x y q
 
     pub nop_agrees : Fine NOP (leading_on (pc rs) Nop (sr rs) false)
     unfolding judge_first judge_second judge_words two_words finished all_may registers_after memory_after past put_if when◌then◌else◌
@@ -138,11 +127,11 @@ module _ (L : Layout) (held : Bool) (rs mem : List ℕ) where
           gie_kept = refl;
         }
 
-    jz_acts : judge_first L held rs mem (Found JZ s d) ≡ Acts (Jz s)
+    jz_acts : judge_first L held rs mem (found JZ s d) ≡ Ok (Jz s)
     unfolding judge_first judge_second judge_words two_words finished all_may when◌then◌else◌
     jz_acts = acting (Jz s) refl refl refl refl
 
-    jz_decodes : finished (Found JZ s d) (word_at mem (second_address (pc rs))) ≡ Decoded (Jz s) (length_of (Jz s))
+    jz_decodes : finished (found JZ s d) (word_at mem (second_address (pc rs))) ≡ decoded (Jz s) (length_of (Jz s))
     unfolding finished
     jz_decodes = when_true _ _ _ refl
 
@@ -191,14 +180,14 @@ module _ (L : Layout) (held : Bool) (rs mem : List ℕ) where
         })
 
     -- a row whose instruction sets a register above r3
-    setting_agrees : (row : Row) (w status : ℕ) (i : Instruction) → judge_first L held rs mem (Found row s d) ≡ Acts i
-        → finished (Found row s d) (word_at mem (second_address (pc rs))) ≡ Decoded i (length_of i) → privileged i ≡ false → is_reti i ≡ false
+    setting_agrees : (row : Row) (w status : ℕ) (i : Instruction) → judge_first L held rs mem (found row s d) ≡ Ok i
+        → finished (found row s d) (word_at mem (second_address (pc rs))) ≡ decoded i (length_of i) → privileged i ≡ false → is_reti i ≡ false
         → (4 ≤ d → (t : Bool) (device : ℕ) → registers_after t rs device mem i ≡ set (set (set rs 0 (address_past (pc rs) i)) d w) 2 status)
         → memory_after rs mem i ≡ mem → gie status ≡ gie (sr rs) → Fine row (setting_on (pc rs) i d w status)
     unfolding setting_register_in put_if
     setting_agrees row w status i a f p r sets m q =
-        unless (Found row s d) x y (ltb d 4)
-        (Fast (record { to = address_past (pc rs) i; number = d; word = w; status = status; puts = false; cycles = cycles_of i }))
+        unless (found row s d) x y (ltb d 4)
+        (Some (record { to = address_past (pc rs) i; number = d; word = w; status = status; puts = false; cycles = cycles_of i }))
         (λ h. record {
           instruction = i;
           acts = a;
@@ -221,11 +210,11 @@ module _ (L : Layout) (held : Bool) (rs mem : List ℕ) where
         setting_agrees MOV _ _ i (acting i refl refl refl refl) refl refl refl (λ h t device. moved rs _ t d _ h) refl refl
 
     pub load_agrees : Fine LOAD
-        (when may L (pc rs) read (drop_bit0 (register rs s)) then setting_on (pc rs) (Mov (Pointed s) d) d (word_at mem (register rs s)) (sr rs) else Slow)
+        (when may L (pc rs) read (drop_bit0 (register rs s)) then setting_on (pc rs) (Mov (Pointed s) d) d (word_at mem (register rs s)) (sr rs) else None)
     unfolding judge_first judge_second judge_words two_words finished all_may registers_after memory_after past
     load_agrees =
         let i : Instruction = Mov (Pointed s) d in
-        provided (Found LOAD s d) x y (may L (pc rs) read (drop_bit0 (register rs s))) (setting_on (pc rs) i d (word_at mem (register rs s)) (sr rs))
+        provided (found LOAD s d) x y (may L (pc rs) read (drop_bit0 (register rs s))) (setting_on (pc rs) i d (word_at mem (register rs s)) (sr rs))
         (λ k. setting_agrees LOAD _ _ i
         (when_false _ _ _ refl ∙ ap (judge_words L held rs) (when_true _ _ _ refl) ∙ acting i refl refl (when_true _ _ _ k) refl)
         (when_true _ _ _ refl) refl refl (λ h t device. moved rs _ t d _ h) refl refl)
@@ -233,17 +222,17 @@ module _ (L : Layout) (held : Bool) (rs mem : List ℕ) where
     pub constant_agrees : Fine IMMEDIATE
         (when same_side L (pc rs) (second_address (pc rs)) then
         immediate (pc rs) (sr rs) (word_at mem (second_address (pc rs))) d
-        else Slow)
+        else None)
     unfolding judge_first judge_second judge_words two_words finished all_may registers_after memory_after past
     constant_agrees =
         let w : ℕ = word_at mem (second_address (pc rs)) in
         let i : Instruction = Mov (Constant w) d in
-        provided (Found IMMEDIATE s d) x y (same_side L (pc rs) (second_address (pc rs))) (immediate (pc rs) (sr rs) w d)
+        provided (found IMMEDIATE s d) x y (same_side L (pc rs) (second_address (pc rs))) (immediate (pc rs) (sr rs) w d)
         (λ k. setting_agrees IMMEDIATE _ _ i
         (when_true _ _ _ refl ∙ when_true _ _ _ k ∙ ap (judge_words L held rs) (when_true _ _ _ refl) ∙ acting i refl refl refl refl)
         (when_true _ _ _ refl) refl refl (λ h t device. moved rs _ t d _ h) refl refl)
 
-    compute_acts : (o : Operation) → judge_first L held rs mem (Found (COMPUTE o) s d) ≡ Acts (Compute o s d)
+    compute_acts : (o : Operation) → judge_first L held rs mem (found (COMPUTE o) s d) ≡ Ok (Compute o s d)
     unfolding judge_first judge_second judge_words two_words finished all_may when◌then◌else◌
     compute_acts o = acting (Compute o s d) refl refl refl refl
 
@@ -276,20 +265,20 @@ module _ (L : Layout) (held : Bool) (rs mem : List ℕ) where
         (λ h t device. stored rs _ t d _ h _) refl (flags_only (sr rs) _).1
 
   -- MOV s 0(d), which puts its source
-  pub store_agrees : (s d : ℕ) → EffectAgrees (Found STORE s d) (register rs s) (register rs d)
-      (when not (same_side L (pc rs) (second_address (pc rs))) then Slow
-      else when not (eqb (word_at mem (second_address (pc rs))) 0) then Slow
+  pub store_agrees : (s d : ℕ) → EffectAgrees (found STORE s d) (register rs s) (register rs d)
+      (when not (same_side L (pc rs) (second_address (pc rs))) then None
+      else when not (eqb (word_at mem (second_address (pc rs))) 0) then None
       else when may L (pc rs) write (drop_bit0 (register rs d)) then leading_on (pc rs) (Store s d) (sr rs) true
-      else Slow)
+      else None)
   unfolding judge_first judge_second judge_words two_words finished all_may registers_after memory_after past put_if
   store_agrees s d =
-      let done : Speed = leading_on (pc rs) (Store s d) (sr rs) true in
+      let done : Option Effect = leading_on (pc rs) (Store s d) (sr rs) true in
       let may-put : Bool = may L (pc rs) write (drop_bit0 (register rs d)) in
-      let two : Speed = when may-put then done else Slow in
+      let two : Option Effect = when may-put then done else None in
       let wrong : Bool = not (eqb (word_at mem (second_address (pc rs))) 0) in
-      unless (Found STORE s d) _ _ _ (when wrong then Slow else two)
-      (λ k. unless (Found STORE s d) _ _ wrong two
-      (λ l. provided (Found STORE s d) _ _ may-put done
+      unless (found STORE s d) _ _ _ (when wrong then None else two)
+      (λ k. unless (found STORE s d) _ _ wrong two
+      (λ l. provided (found STORE s d) _ _ may-put done
       (λ h. record {
         instruction = Store s d;
         acts = when_true _ _ _ refl ∙ when_true _ _ _ (not-false _ k) ∙ ap (judge_words L held rs) (when_true _ _ _ (not-false _ l))

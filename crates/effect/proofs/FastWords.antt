@@ -1,11 +1,6 @@
 -- The fast answer of any first word keeps its promise. Assumes nothing.
-use mathlib.Core.Path.{◌≡◌, refl, sym, ap, subst}
-use mathlib.Core.Bool.{Bool, true, false, not}
-use mathlib.Core.List.{List, [], ◌∷◌}
-use Prim.Native.Nat.{ℕ, ◌+◌, ◌*◌, ◌/◌, ◌%◌, ◌≤◌, ◌<◌}
-use native.Mathlib.Omega.{arith}
-use lib.Dec.{ltb, eqb}
-use borrow.Author.Tests.{ltb-false, eqb-true, not-false}
+use Rattle.std.proofs.Common.{◌≡◌, refl, sym, ap, subst, Bool, true, false, not, List, [], ◌∷◌, ℕ, ◌+◌, ◌*◌, ◌/◌, ◌%◌, ◌≤◌, ◌<◌, arith, ltb, eqb, Option, None, Some}
+use Rattle.std.proofs.lemmas.Bool.{ltb-false, eqb-true, not-false}
 use Rattle.base.specs.Test.{when◌then◌else◌, all}
 use Rattle.base.specs.Word.{drop_bit0}
 use Rattle.base.proofs.Tests.{cases, each, every, when_true, choose}
@@ -14,8 +9,7 @@ use Rattle.rows.specs.declared.row.Operation.TheVariants.{Add, Sub, Cmp, And}
 use Rattle.rows.specs.declared.row.Row.{Row}
 use Rattle.rows.specs.declared.row.Row.TheVariants.{Jz as JZ, Nop as NOP, Jmp as JMP, Mov as MOV, Load as LOAD, Store as STORE, Immediate as IMMEDIATE, Compute as COMPUTE}
 use Rattle.rows.specs.declared.read.Begun.{Begun}
-use Rattle.rows.specs.declared.read.Begun.TheVariants.{Found}
-use Rattle.rows.specs.Words.{has_word, begun}
+use Rattle.rows.specs.Words.{has_word, found, begun}
 use Rattle.isa.specs.declared.instruction.Operand.TheVariants.{Register, Pointed}
 use Rattle.isa.specs.declared.instruction.Instruction.{Instruction}
 use Rattle.isa.specs.declared.instruction.Instruction.TheVariants.{Nop, Jmp, Mov, Store}
@@ -27,8 +21,6 @@ use Rattle.rows.proofs.Rows.{has, begun_row}
 use Rattle.layout.specs.Sections.{same_side}
 use Rattle.layout.specs.Access.{may}
 use Rattle.effect.specs.declared.effect.Effect.{Effect}
-use Rattle.effect.specs.declared.effect.Speed.{Speed}
-use Rattle.effect.specs.declared.effect.Speed.TheVariants.{Slow, Fast}
 use Rattle.definition.specs.Memory.{word_at}
 use Rattle.definition.specs.Registers.{register, pc, sr}
 use Rattle.effect.specs.Effect.{address_past, second_address, setting_pc, setting_register_in, setting_register, leading_on, setting_on, computing, grouped, branching, registering, immediate, loading, constant, storing, moving, fast_effect}
@@ -36,14 +28,14 @@ use Rattle.effect.proofs.FastRows.{points, Acting, EffectAgrees, unless, provide
 
 module _ (L : Layout) (held : Bool) (rs mem : List ℕ) (w : ℕ) where
   -- what a word promises, with the registers of its second and last digits
-  abbrev Word : Speed → Type 0
+  abbrev Word : Option Effect → Type 0
   Word q = EffectAgrees L held rs mem (begun w) (register rs (w / 256 % 16)) (register rs (w % 16)) q
 
   -- a word is in a row
-  in_row : (row : Row) (q : Speed) → has_word row w ≡ true
-      → EffectAgrees L held rs mem (Found row (s_digit row w) (d_digit row w)) (register rs (w / 256 % 16)) (register rs (w % 16)) q → Word q
+  in_row : (row : Row) (q : Option Effect) → has_word row w ≡ true
+      → EffectAgrees L held rs mem (found row (s_digit row w) (d_digit row w)) (register rs (w / 256 % 16)) (register rs (w % 16)) q → Word q
   in_row row q h p =
-      subst (λ (b : Begun). EffectAgrees L held rs mem b (register rs (w / 256 % 16)) (register rs (w % 16)) q) (sym (begun_row row w h)) p
+      subst (λ (b : Option Begun). EffectAgrees L held rs mem b (register rs (w / 256 % 16)) (register rs (w % 16)) q) (sym (begun_row row w h)) p
 
   -- a register below r4 is rare, whatever the row
   when_general : (i : Instruction) (to v status : ℕ) → (4 ≤ w % 16 → Word (setting_register i to (w % 16) v status))
@@ -84,8 +76,8 @@ module _ (L : Layout) (held : Bool) (rs mem : List ℕ) (w : ℕ) where
     load_word z =
         let x = register rs (w / 256 % 16) in
         let i : Instruction = Mov (Pointed (w / 256 % 16)) (w % 16) in
-        let q : Speed =
-        when may L (pc rs) read (drop_bit0 x) then setting_on (pc rs) i (w % 16) (word_at mem x) (sr rs) else Slow in
+        let q : Option Effect =
+        when may L (pc rs) read (drop_bit0 x) then setting_on (pc rs) i (w % 16) (word_at mem x) (sr rs) else None in
         unless L held rs mem (begun w) x (register rs (w % 16)) (ltb (w / 256 % 16) 4) q
         (λ h.
         let k = ltb-false (w / 256 % 16) 4 h in
@@ -97,8 +89,8 @@ module _ (L : Layout) (held : Bool) (rs mem : List ℕ) (w : ℕ) where
     constant_word z =
         let x = register rs (w / 256 % 16) in
         let second = second_address (pc rs) in
-        let q : Speed =
-        when same_side L (pc rs) second then immediate (pc rs) (sr rs) (word_at mem second) (w % 16) else Slow in
+        let q : Option Effect =
+        when same_side L (pc rs) second then immediate (pc rs) (sr rs) (word_at mem second) (w % 16) else None in
         unless L held rs mem (begun w) x (register rs (w % 16)) (not (eqb (w / 256 % 16) 0)) q
         (λ h.
         let k = eqb-true (w / 256 % 16) 0 (not-false _ h) in
@@ -111,11 +103,11 @@ module _ (L : Layout) (held : Bool) (rs mem : List ℕ) (w : ℕ) where
         let y = register rs (w % 16) in
         let i : Instruction = Store (w / 256 % 16) (w % 16) in
         let second = second_address (pc rs) in
-        let q : Speed =
-        when not (same_side L (pc rs) second) then Slow
-        else when not (eqb (word_at mem second) 0) then Slow
+        let q : Option Effect =
+        when not (same_side L (pc rs) second) then None
+        else when not (eqb (word_at mem second) 0) then None
         else when may L (pc rs) write (drop_bit0 y) then leading_on (pc rs) i (sr rs) true
-        else Slow in
+        else None in
         unless L held rs mem (begun w) (register rs (w / 256 % 16)) y (ltb (w % 16) 4) q
         (λ h.
         let k = ltb-false (w % 16) 4 h in
@@ -137,7 +129,7 @@ module _ (L : Layout) (held : Bool) (rs mem : List ℕ) (w : ℕ) where
   group_word o g =
       let x = register rs (w / 256 % 16) in
       let y = register rs (w % 16) in
-      let q : Speed = computing (pc rs) (sr rs) o (w / 256 % 16) (w % 16) (computed o x y) in
+      let q : Option Effect = computing (pc rs) (sr rs) o (w / 256 % 16) (w % 16) (computed o x y) in
       provided L held rs mem (begun w) x y (eqb (w / 16 % 16) 0) q
       (λ e.
       let z = eqb-true (w / 16 % 16) 0 e in
@@ -162,6 +154,6 @@ module _ (L : Layout) (held : Bool) (rs mem : List ℕ) (w : ℕ) where
       (branching (pc rs) (sr rs) (register rs (w % 16)) (w % 16)) (λ e. jump_word (eqb-true _ _ e)))))))
 
   -- the instruction behind an effect
-  pub acting_behind : (e : Effect) → fast_effect (pc rs) (sr rs) L mem (register rs (w / 256 % 16)) (register rs (w % 16)) w ≡ Fast e
+  pub acting_behind : (e : Effect) → fast_effect (pc rs) (sr rs) L mem (register rs (w / 256 % 16)) (register rs (w % 16)) w ≡ Some e
       → Acting L held rs mem (begun w) (register rs (w / 256 % 16)) (register rs (w % 16)) e
   acting_behind e does = subst Word does fast_agrees

@@ -7,12 +7,10 @@ ghost use Rattle.std.specs.Prelude.{◌≡◌, ◌/◌, ◌%◌, eqb};
 ghost use Rattle.base.specs.Test.{when◌then◌else◌};
 ghost use Rattle.isa.specs.Cycles.{cycles_of};
 ghost use Rattle.alu.specs.Arithmetic.{computed};
-ghost use Rattle.effect.specs.declared.effect.Speed.TheVariants.{Slow as SLOW};
 ghost use Rattle.effect.specs.Effect.{address_past, second_address, setting_pc_in, setting_register_in, computing, grouped, branching, registering, loading, constant, storing, moving, fast_effect};
 
 use alu::arithmetic::compute;
 use alu::status::{set_flags, zero_is_set};
-use base::test::both;
 use base::word::{drop_bit_0, sum};
 use isa::instruction::{Instruction, Operand};
 use layout::access::Right;
@@ -29,13 +27,6 @@ pub struct Effect {
     pub status: u16,
     pub puts: bool,
     pub cycles: u64,
-}
-
-// An instruction that is left to the step, or what it does.
-#[derive(Clone, Copy)]
-pub enum Speed {
-    Slow,
-    Fast(Effect),
 }
 
 // The address past the instruction at a, by its length in words.
@@ -60,38 +51,38 @@ fn cycles_of(i: Instruction) -> u64
 }
 
 // Only pc is set.
-fn set_pc(to: u16, status: u16, puts: bool, cycles: u64) -> Speed
+fn set_pc(to: u16, status: u16, puts: bool, cycles: u64) -> Option<Effect>
     ensures { result ≡ setting_pc_in to status puts cycles }
 {
-    Speed::Fast(Effect {
-        to: to,
+    Some(Effect {
+        to,
         number: 0,
         word: to,
-        status: status,
-        puts: puts,
-        cycles: cycles,
+        status,
+        puts,
+        cycles,
     })
 }
 
 // Pc is set, and a register above r3.
-fn set_general(to: u16, d: u8, w: u16, status: u16, cycles: u64) -> Speed
+fn set_general(to: u16, d: u8, w: u16, status: u16, cycles: u64) -> Option<Effect>
     ensures { result ≡ setting_register_in to d w status cycles }
 {
     if d < 4 {
-        return Speed::Slow;
+        return None;
     }
-    Speed::Fast(Effect {
-        to: to,
+    Some(Effect {
+        to,
         number: d,
         word: w,
-        status: status,
+        status,
         puts: false,
-        cycles: cycles,
+        cycles,
     })
 }
 
 // ADD, SUB, CMP, AND.
-fn fast_compute(a: u16, status: u16, x: u16, y: u16, o: Operation, s: u8, d: u8) -> Speed
+fn fast_compute(a: u16, status: u16, x: u16, y: u16, o: Operation, s: u8, d: u8) -> Option<Effect>
     ensures { result ≡ computing a status o s d (computed o x y) }
 {
     let i = Instruction::Compute(o, s, d);
@@ -107,17 +98,26 @@ fn fast_compute(a: u16, status: u16, x: u16, y: u16, o: Operation, s: u8, d: u8)
 }
 
 // Those by the third digit.
-fn fast_group(a: u16, status: u16, x: u16, y: u16, o: Operation, s: u8, c: u8, d: u8) -> Speed
+fn fast_group(
+    a: u16,
+    status: u16,
+    x: u16,
+    y: u16,
+    o: Operation,
+    s: u8,
+    c: u8,
+    d: u8,
+) -> Option<Effect>
     ensures { result ≡ grouped a status x y o s c d }
 {
     if c == 0 {
         return fast_compute(a, status, x, y, o, s, d);
     }
-    Speed::Slow
+    None
 }
 
 // JZ.
-fn fast_branch(a: u16, status: u16, x: u16, s: u8) -> Speed
+fn fast_branch(a: u16, status: u16, x: u16, s: u8) -> Option<Effect>
     ensures { result ≡ branching a status x s }
 {
     let i = Instruction::Jz(s);
@@ -128,13 +128,14 @@ fn fast_branch(a: u16, status: u16, x: u16, s: u8) -> Speed
 }
 
 // 4s0d: JMP, NOP, MOV s d.
-fn fast_register(a: u16, status: u16, x: u16, s: u8, d: u8) -> Speed
+#[tactic(auto, using(base::proofs::Tests::choices), unfolding(crate::specs::Effect::registering, base::specs::Test::all))]
+fn fast_register(a: u16, status: u16, x: u16, s: u8, d: u8) -> Option<Effect>
     ensures { result ≡ registering a status x s d }
 {
     if d == 0 {
         return set_pc(drop_bit_0(x), status, false, cycles_of(Instruction::Jmp(s)));
     }
-    if both(s == 3, d == 3) {
+    if s == 3 && d == 3 {
         let i = Instruction::Nop;
         return set_pc(address_past(a, i), status, false, cycles_of(i));
     }
@@ -143,54 +144,70 @@ fn fast_register(a: u16, status: u16, x: u16, s: u8, d: u8) -> Speed
 }
 
 // 4s2d: MOV @s d.
-fn fast_load(a: u16, status: u16, layout: Layout, mem: &[u8], x: u16, s: u8, d: u8) -> Speed
+fn fast_load(
+    a: u16,
+    status: u16,
+    layout: Layout,
+    mem: &[u8],
+    x: u16,
+    s: u8,
+    d: u8,
+) -> Option<Effect>
     ensures { result ≡ loading a status layout mem.now x s d }
 {
     let i = Instruction::Mov(Operand::Pointed(s), d);
     if s < 4 {
-        return Speed::Slow;
+        return None;
     }
     if layout.may(a, Right::Read, drop_bit_0(x)) {
         return set_general(address_past(a, i), d, word_at(mem, x), status, cycles_of(i));
     }
-    Speed::Slow
+    None
 }
 
 // 403d: MOV #w d.
-fn fast_constant(a: u16, status: u16, layout: Layout, mem: &[u8], s: u8, d: u8) -> Speed
+fn fast_constant(a: u16, status: u16, layout: Layout, mem: &[u8], s: u8, d: u8) -> Option<Effect>
     ensures { result ≡ constant a status layout mem.now s d }
 {
     let second = second_address(a);
     if s != 0 {
-        return Speed::Slow;
+        return None;
     }
     if layout.same_side(a, second) {
         let w = word_at(mem, second);
         let i = Instruction::Mov(Operand::Constant(w), d);
         return set_general(address_past(a, i), d, w, status, cycles_of(i));
     }
-    Speed::Slow
+    None
 }
 
 // 4s8d: MOV s 0(d).
-fn fast_store(a: u16, status: u16, layout: Layout, mem: &[u8], y: u16, s: u8, d: u8) -> Speed
+fn fast_store(
+    a: u16,
+    status: u16,
+    layout: Layout,
+    mem: &[u8],
+    y: u16,
+    s: u8,
+    d: u8,
+) -> Option<Effect>
     ensures { result ≡ storing a status layout mem.now y s d }
 {
     let i = Instruction::Store(s, d);
     let second = second_address(a);
     if d < 4 {
-        return Speed::Slow;
+        return None;
     }
     if !layout.same_side(a, second) {
-        return Speed::Slow;
+        return None;
     }
     if word_at(mem, second) != 0 {
-        return Speed::Slow;
+        return None;
     }
     if layout.may(a, Right::Write, drop_bit_0(y)) {
         return set_pc(address_past(a, i), status, true, cycles_of(i));
     }
-    Speed::Slow
+    None
 }
 
 // 4scd: the moves.
@@ -204,7 +221,7 @@ fn fast_move(
     s: u8,
     c: u8,
     d: u8,
-) -> Speed
+) -> Option<Effect>
     ensures { result ≡ moving a status layout mem.now x y s c d }
 {
     match c {
@@ -212,18 +229,18 @@ fn fast_move(
         2 => fast_load(a, status, layout, mem, x, s, d),
         3 => fast_constant(a, status, layout, mem, s, d),
         8 => fast_store(a, status, layout, mem, y, s, d),
-        _ => Speed::Slow,
+        _ => None,
     }
 }
 
 // JZ, or what is left to the step.
-fn fast_jump(a: u16, status: u16, y: u16, d: u8, w: u16) -> Speed
-    ensures { result ≡ (when eqb (w / 16) 3 then branching a status y d else SLOW) }
+fn fast_jump(a: u16, status: u16, y: u16, d: u8, w: u16) -> Option<Effect>
+    ensures { result ≡ (when eqb (w / 16) 3 then branching a status y d else None) }
 {
     if w / 16 == 3 {
         return fast_branch(a, status, y, d);
     }
-    Speed::Slow
+    None
 }
 
 // The second digit of a word. Each row asks for it on its own: held for all rows, it takes a register that the loop needs.
@@ -234,7 +251,15 @@ fn second_digit(w: u16) -> u8
 }
 
 // What the instruction at a does, whose first word is w.
-pub fn fast_effect(a: u16, status: u16, layout: Layout, mem: &[u8], x: u16, y: u16, w: u16) -> Speed
+pub fn fast_effect(
+    a: u16,
+    status: u16,
+    layout: Layout,
+    mem: &[u8],
+    x: u16,
+    y: u16,
+    w: u16,
+) -> Option<Effect>
     ensures { result ≡ fast_effect a status layout mem.now x y w }
 {
     let c = (w / 16 % 16) as u8;

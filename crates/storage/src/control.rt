@@ -9,21 +9,19 @@ use definition::state::{SavedContext, State, Time};
 pub struct Control {
     pub previous: u16,
     pub time: Time,
-    pub context: SavedContext,
+    pub context: Option<SavedContext>,
     pub halted: bool,
 }
 
 impl Control {
-    // What a state has beside its registers.
+    // What a state has beside its registers: a part of it, and no conversion, so no `From`.
     pub fn of(s: State) -> Control
         ensures { result ≡ control_of s }
     {
-        let time = s.time;
-        let context = s.context;
         Control {
             previous: s.previous,
-            time: time,
-            context: context,
+            time: s.time,
+            context: s.context,
             halted: s.halted,
         }
     }
@@ -32,14 +30,12 @@ impl Control {
     pub fn state(self, registers: [u16; 16], saved: [u16; 16]) -> State
         ensures { result ≡ with_registers registers saved self }
     {
-        let time = self.time;
-        let context = self.context;
         State {
-            registers: registers,
+            registers,
             previous: self.previous,
-            time: time,
-            context: context,
-            saved: saved,
+            time: self.time,
+            context: self.context,
+            saved,
             halted: self.halted,
         }
     }

@@ -1,4 +1,4 @@
-use mathlib.Core.Path.{sym}
+use Rattle.std.proofs.Common.{sym}
 use Rattle.base.specs.Test.{when◌then◌else◌}
 use Rattle.base.specs.FirstFailure.{first_failure}
 use Rattle.admission.proofs.verdict.judge_step.Goals as goal

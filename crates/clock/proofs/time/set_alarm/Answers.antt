@@ -13,4 +13,4 @@ returns c = λ room.
     let w = c.args.w in
     let clock = c.args.t.clock in
     let kept : (clock + w) % 2 ^ 64 ≡ clock + w = omega (arith, room) in
-    simp (ne_eqb _ _ c.if-w-eq0.false, c.wrapping_add_u64.ensures.value, kept)
+    simp (ne_eqb _ _ c.if-w-eq0.false, kept)
