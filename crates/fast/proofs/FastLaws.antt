@@ -1,10 +1,8 @@
 -- The fast way of a step does what the step does. Assumes nothing.
-use mathlib.Core.Path.{◌≡◌, refl, sym, ◌∙◌, ap}
-use mathlib.Core.Bool.{Bool, true, false, true≢false}
-use mathlib.Core.List.{List}
-use Prim.Native.Nat.{ℕ}
-use native.Mathlib.Omega.{arith}
-use borrow.Author.Tests.{not-true}
+use Rattle.answers.specs.declared.answer.Cause.{Cause}
+use Rattle.isa.specs.declared.instruction.Instruction.{Instruction}
+use Rattle.std.proofs.Common.{◌≡◌, refl, sym, ◌∙◌, ap, Bool, true, false, true≢false, List, ℕ, arith, Option, None, Result}
+use Rattle.std.proofs.lemmas.Bool.{not-true}
 use Rattle.base.proofs.Tests.{cases, when_false, choose, choose_both}
 use Rattle.rows.specs.declared.read.Begun.{Begun}
 use Rattle.rows.specs.Words.{begun}
@@ -13,8 +11,6 @@ use Rattle.alu.specs.Status.{gie}
 use Rattle.layout.specs.declared.sections.Layout.{Layout}
 use Rattle.layout.specs.Sections.{inside}
 use Rattle.definition.specs.Setting.{Setting}
-use Rattle.definition.specs.declared.state.Stamp.{Stamp}
-use Rattle.definition.specs.declared.state.Stamp.TheVariants.{Never}
 use Rattle.definition.specs.declared.state.State.{State}
 use Rattle.answers.specs.declared.answer.Outcome.TheVariants.{Ran}
 use Rattle.definition.specs.State.{is_held, world}
@@ -24,7 +20,6 @@ use Rattle.definition.specs.Step.{alarmed, saved_for, executed, step, judged}
 use Rattle.definition.proofs.instruction.InstructionLaws.{unprivileged}
 use Rattle.definition.proofs.step.GieLaws.{set_gie}
 use Rattle.definition.proofs.step.StepLaws.{bytes, next, Runs, step_runs}
-use Rattle.definition.specs.declared.judge.Judged.{Judged}
 use Rattle.effect.specs.declared.effect.Effect.{Effect}
 use Rattle.definition.specs.Memory.{word_at}
 use Rattle.definition.specs.Registers.{pc, sr}
@@ -40,7 +35,7 @@ pub fetched_judged : (L : Layout) (held : Bool) (rs mem : List ℕ) (previous : 
     → judge L held rs mem previous ≡ judge_first L held rs mem (begun (word_at mem (pc rs)))
 unfolding fetchable judge
 fetched_judged L held rs mem previous =
-    choose_both (λ (t : Bool) (j : Judged). t ≡ true → j ≡ judge_first L held rs mem (begun (word_at mem (pc rs)))) _
+    choose_both (λ (t : Bool) (j : Result Instruction Cause). t ≡ true → j ≡ judge_first L held rs mem (begun (word_at mem (pc rs)))) _
     (λ h e. absurd (true≢false (sym e))) (λ h e. when_false _ _ _ (not-true _ e))
 
 -- the machine after an effect
@@ -56,27 +51,27 @@ after_effect e m =
     }
 
 -- no interrupt is due while the slot is empty
-none_due : (m : State) → m.time.slot ≡ Never → due m ≡ Never
+none_due : (m : State) → m.time.slot ≡ None → due m ≡ None
 unfolding due
-none_due m e = choose (λ (z : Stamp). z ≡ Never) _ (λ h. e) (λ h. refl)
+none_due m e = choose (λ (z : Option ℕ). z ≡ None) _ (λ h. e) (λ h. refl)
 
 -- and none of a masked machine
-masked_due : (m : State) → gie (sr m.registers) ≡ false → due m ≡ Never
+masked_due : (m : State) → gie (sr m.registers) ≡ false → due m ≡ None
 unfolding due
 masked_due m e = when_false _ _ _ e
 
 module _ (S : Setting) (m : State) (mem : List ℕ) (running : m.halted ≡ false) where
-  module _ (b : Begun) (x y : ℕ) (e : Effect) (a : Acting S.layout (is_held m.context) m.registers mem b x y e)
+  module _ (b : Option Begun) (x y : ℕ) (e : Effect) (a : Acting S.layout (is_held m.context) m.registers mem b x y e)
       (judging : judged S (world m mem) ≡ judge_first S.layout (is_held m.context) m.registers mem b)
       (still : pass S e.cycles m.time ≡ later e.cycles m.time) (masked : Bool)
-      (gie_clear : masked ≡ true → gie (sr m.registers) ≡ false) (empty : masked ≡ false → m.time.slot ≡ Never) where
+      (gie_clear : masked ≡ true → gie (sr m.registers) ≡ false) (empty : masked ≡ false → m.time.slot ≡ None) where
     -- a masked machine stays so
     pub acting_gie_clear : masked ≡ true → gie (sr (after_effect e m).registers) ≡ false
     acting_gie_clear h =
         set_gie false _ 2 _ (λ k. a.gie_kept ∙ gie_clear h)
         (set_gie false _ e.number _ (λ k. absurd (a.general k)) (set_gie false m.registers 0 _ (λ k. absurd (omega arith)) (gie_clear h)))
 
-    acting_due : due (after_effect e m) ≡ Never
+    acting_due : due (after_effect e m) ≡ None
     acting_due = cases masked (λ h. masked_due (after_effect e m) (acting_gie_clear h)) (λ h. none_due (after_effect e m) (empty h))
 
     acting_time : alarmed m.registers a.instruction (pass S (cycles_of a.instruction) m.time)

@@ -1,4 +1,5 @@
 -- Fast steps in a row are steps. Assumes nothing.
+use Rattle.std.specs.Prelude.{Option, None, Some}
 use mathlib.Core.Path.{◌≡◌, refl, sym, ◌∙◌, ap, subst}
 use mathlib.Core.Bool.{Bool, true, false}
 use mathlib.Core.List.{List}
@@ -14,15 +15,12 @@ use Rattle.rows.specs.Words.{begun}
 use Rattle.alu.specs.Status.{gie}
 use Rattle.layout.specs.declared.sections.Layout.{Layout}
 use Rattle.definition.specs.Setting.{Setting}
-use Rattle.definition.specs.declared.state.Stamp.TheVariants.{Never}
 use Rattle.definition.specs.declared.state.SavedContext.{SavedContext}
-use Rattle.definition.specs.declared.state.SavedContext.TheVariants.{Unheld, Held}
 use Rattle.definition.specs.declared.state.Time.{Time}
 use Rattle.storage.specs.declared.control.Control.{Control}
 use Rattle.definition.specs.declared.state.State.{State}
 use Rattle.answers.specs.declared.answer.Outcome.TheVariants.{Ran}
 use Rattle.effect.specs.declared.effect.Effect.{Effect}
-use Rattle.effect.specs.declared.effect.Speed.TheVariants.{Fast}
 use Rattle.definition.specs.Memory.{word_at}
 use Rattle.definition.specs.Registers.{register, sr}
 use Rattle.definition.specs.State.{world, is_held}
@@ -44,12 +42,12 @@ use Rattle.effect.proofs.FastWords.{acting_behind}
 
 -- ---- the saved copy
 
-saved_again : (v : SavedContext) (saved : List ℕ) → saved_for v (saved_for v saved) ≡ saved_for v saved
-saved_again Unheld saved = refl
-saved_again (Held previous age) saved = refl
+saved_again : (v : Option SavedContext) (saved : List ℕ) → saved_for v (saved_for v saved) ≡ saved_for v saved
+saved_again None saved = refl
+saved_again (Some _) saved = refl
 
 -- after one more step
-saved_on : (v : SavedContext) (saved : List ℕ) (k n : ℕ) → n ≡ k + 1 → saved_after n v saved ≡ saved_for v (saved_after k v saved)
+saved_on : (v : Option SavedContext) (saved : List ℕ) (k n : ℕ) → n ≡ k + 1 → saved_after n v saved ≡ saved_for v (saved_after k v saved)
 unfolding saved_after
 saved_on v saved k n e =
     when_false _ _ _ (ne_eqb n 0 (λ z. absurd (omega arith)))
@@ -57,7 +55,7 @@ saved_on v saved k n e =
 
 -- ---- fast steps in a row
 
-module _ (L : Layout) (held : Bool) (s : FastState) (w : ℕ) (e : Effect) (does : fast_at L s w ≡ Fast e) where
+module _ (L : Layout) (held : Bool) (s : FastState) (w : ℕ) (e : Effect) (does : fast_at L s w ≡ Some e) where
   -- the instruction behind an effect
   acting_at : Acting L held s.registers s.memory (begun w)
       (register s.registers (w / 256 % 16)) (register s.registers (w % 16)) e
@@ -85,7 +83,7 @@ pub record FastLoop (L : Layout) (held : Bool) (until left : ℕ) (from s : Fast
 module _
     (L : Layout) (held : Bool) (until left : ℕ) (from s : FastState) (k : ℕ) (q : FastLoop L held until left from s k) (more : k < left)
     (near : s.clock + most_fast_cycles ≤ until) (f : fetchable L held s.previous (get_or s.registers 0 0) ≡ true) (w : ℕ)
-    (word : w ≡ word_at s.memory (get_or s.registers 0 0)) (e : Effect) (does : fast_at L s w ≡ Fast e) where
+    (word : w ≡ word_at s.memory (get_or s.registers 0 0)) (e : Effect) (does : fast_at L s w ≡ Some e) where
   -- one more fast step
   pub fast_loop_next : until ≤ last_clock → (bytes : List ℕ) → bytes ≡ (applied e w s).memory
       → FastLoop L held until left from (fast_state (applied e w s).registers (applied e w s).previous (applied e w s).clock bytes) (k + 1)
@@ -131,7 +129,7 @@ module _ (S : Setting) where
     module _
         (k : ℕ) (s : FastState) (q : Follows k s) (near : s.clock + most_fast_cycles ≤ until)
         (f : fetchable S.layout held s.previous (get_or s.registers 0 0) ≡ true) (w : ℕ)
-        (word : w ≡ word_at s.memory (get_or s.registers 0 0)) (e : Effect) (does : fast_at S.layout s w ≡ Fast e) (n : ℕ)
+        (word : w ≡ word_at s.memory (get_or s.registers 0 0)) (e : Effect) (does : fast_at S.layout s w ≡ Some e) (n : ℕ)
         (count : n ≡ k + 1) where
       -- the machine runs
       awake : c.halted ≡ false
@@ -155,7 +153,7 @@ module _ (S : Setting) where
       goes_on : pass S e.cycles (time_at c.time s.clock) ≡ later e.cycles (time_at c.time s.clock)
       goes_on = q.going.passes e.cycles few.0 (let h = few.1 in omega arith)
 
-      nothing_pending : masked ≡ false → c.time.slot ≡ Never
+      nothing_pending : masked ≡ false → c.time.slot ≡ None
       nothing_pending = q.going.empty e.cycles few.0 (let h = few.1 in omega arith)
 
       stays_gie_clear : masked ≡ true → gie (sr (after_effect e (machine_at k s)).registers) ≡ false

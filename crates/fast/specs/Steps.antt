@@ -1,5 +1,5 @@
 -- Fast steps in a row: what each sets, and that steps of the definition lead from one world to another.
-use Rattle.std.specs.Prelude.{◌≡◌, Bool, true, false, not, List, [], ◌∷◌, ℕ, ◌+◌, ◌/◌, ◌%◌, ◌≤◌, eqb, get_or, set}
+use Rattle.std.specs.Prelude.{◌≡◌, Bool, true, false, not, List, [], ◌∷◌, ℕ, ◌+◌, ◌/◌, ◌%◌, ◌≤◌, eqb, get_or, set, Option, Some}
 use Rattle.base.specs.Test.{when◌then◌else◌, all}
 use Rattle.base.specs.Limits.{last_clock}
 use Rattle.layout.specs.declared.sections.Layout.{Layout}
@@ -10,8 +10,6 @@ use Rattle.definition.specs.Setting.{Setting}
 use Rattle.definition.specs.declared.state.SavedContext.{SavedContext}
 use Rattle.answers.specs.declared.answer.Outcome.TheVariants.{Ran}
 use Rattle.effect.specs.declared.effect.Effect.{Effect}
-use Rattle.effect.specs.declared.effect.Speed.{Speed}
-use Rattle.effect.specs.declared.effect.Speed.TheVariants.{Fast}
 use Rattle.definition.specs.Memory.{word_at}
 use Rattle.definition.specs.State.{World}
 use Rattle.definition.specs.Interrupt.{gives}
@@ -37,7 +35,7 @@ abbrev pub fast_state : List ℕ → ℕ → ℕ → List ℕ → FastState
 fast_state registers previous clock memory = record { registers = registers; previous = previous; clock = clock; memory = memory }
 
 -- what the first word w at pc does
-abbrev pub fast_at : Layout → FastState → ℕ → Speed
+abbrev pub fast_at : Layout → FastState → ℕ → Option Effect
 fast_at L s w =
     fast_effect (get_or s.registers 0 0) (get_or s.registers 2 0) L s.memory
     (get_or s.registers (w / 256 % 16) 0) (get_or s.registers (w % 16) 0) w
@@ -59,7 +57,7 @@ module _ (L : Layout) (held : Bool) (until : ℕ) where
     no_step : FastSteps from 0 from
     one_more : (k n : ℕ) (s next : FastState) (w : ℕ) (e : Effect) → FastSteps from k s → s.clock + most_fast_cycles ≤ until
         → fetchable L held s.previous (get_or s.registers 0 0) ≡ true → w ≡ word_at s.memory (get_or s.registers 0 0)
-        → fast_at L s w ≡ Fast e → next ≡ applied e w s → n ≡ k + 1 → FastSteps from n next
+        → fast_at L s w ≡ Some e → next ≡ applied e w s → n ≡ k + 1 → FastSteps from n next
 
 module _ (S : Setting) where
   -- k steps that only ran lead from one world to another, each from a machine that goes on
@@ -69,5 +67,5 @@ module _ (S : Setting) where
         → step_of S w ≡ gives next.state next.memory Ran → n ≡ k + 1 → RanSteps from n next
 
 -- the saved copy after so many steps that only ran
-unfoldable pub saved_after : ℕ → SavedContext → List ℕ → List ℕ
+unfoldable pub saved_after : ℕ → Option SavedContext → List ℕ → List ℕ
 saved_after steps context saved = when eqb steps 0 then saved else saved_for context saved

@@ -6,8 +6,7 @@ ghost use Rattle.effect.specs.Effect.{put_if};
 ghost use Rattle.fast.specs.Steps.{fetchable, fast_state, FastSteps};
 
 use base::limits::{LAST_CLOCK, MEMORY_BYTES};
-use base::test::both;
-use effect::effect::{Speed, fast_effect};
+use effect::effect::fast_effect;
 use layout::access::Right;
 use layout::sections::Layout;
 use storage::memory::{put_word, word_at};
@@ -27,13 +26,14 @@ pub struct FastProgress {
 }
 
 // The word at pc may be executed.
+#[tactic(auto, using(base::proofs::Tests::choices), unfolding(crate::specs::Steps::fetchable, base::specs::Test::all))]
 fn may_fetch(layout: Layout, held: bool, previous: u16, pc: u16) -> bool
     ensures { result ≡ fetchable layout held previous pc }
 {
     if !layout.may(previous, Right::Execute, pc) {
         return false;
     }
-    !both(layout.inside(pc), held)
+    !(layout.inside(pc) && held)
 }
 
 // Puts a word, if one is to be put.
@@ -64,6 +64,7 @@ fn fast_loop(
     let mut last = previous;
     let mut time = clock;
     let mut steps: u64 = 0;
+    // No `for`: `steps` is an answer, and where the loop ends is for what it meets.
     while steps < left {
         if until < time + MOST_FAST_CYCLES {
             break;
@@ -75,7 +76,7 @@ fn fast_loop(
         let w = word_at(mem, pc);
         let x = registers[(w / 256 % 16) as usize];
         let y = registers[(w % 16) as usize];
-        let Speed::Fast(e) = fast_effect(pc, registers[2], layout, mem, x, y, w) else {
+        let Some(e) = fast_effect(pc, registers[2], layout, mem, x, y, w) else {
             break;
         };
         let n = (e.number % 16) as usize;
@@ -90,7 +91,7 @@ fn fast_loop(
     FastProgress {
         previous: last,
         clock: time,
-        steps: steps,
+        steps,
     }
 }
 
@@ -108,16 +109,12 @@ pub fn fast_steps(
     ensures ran { FastSteps layout held until (fast_state registers.old previous clock mem.old) result.steps (fast_state registers.new result.previous result.clock mem.new) }
     ensures within { result.steps ≤ left }
 {
-    if mem.len() == MEMORY_BYTES {
-        if clock <= CLOCK_ROOM {
-            if until <= LAST_CLOCK {
-                return fast_loop(registers, previous, clock, held, mem, layout, until, left);
-            }
-        }
+    if mem.len() == MEMORY_BYTES && clock <= CLOCK_ROOM && until <= LAST_CLOCK {
+        return fast_loop(registers, previous, clock, held, mem, layout, until, left);
     }
     FastProgress {
-        previous: previous,
-        clock: clock,
+        previous,
+        clock,
         steps: 0,
     }
 }

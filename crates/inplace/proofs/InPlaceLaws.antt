@@ -1,16 +1,9 @@
 -- A machine whose registers are lent: the saved copy by what is held, and what is left of it, apart and joined. Assumes nothing.
-use mathlib.Core.Path.{◌≡◌, refl, sym, ◌∙◌, ap, subst}
-use mathlib.Core.Bool.{Bool, true, false, true≢false}
-use mathlib.Core.List.{List}
-use Prim.Native.Nat.{ℕ, ◌≤◌}
-use native.Mathlib.Omega.{arith}
-use lib.ListN.{get_or}
-use borrow.Author.Tests.{ne_eqb}
+use Rattle.std.proofs.Common.{◌≡◌, ℕ, ◌≤◌, Bool, true, false, true≢false, List, get_or, refl, sym, ◌∙◌, ap, subst, arith, ne_eqb, Option, None, Some}
 use Rattle.base.proofs.Tests.{when_false}
 use Rattle.std.proofs.lemmas.Bool.{not-true}
 use Rattle.definition.specs.Setting.{Setting}
 use Rattle.definition.specs.declared.state.SavedContext.{SavedContext}
-use Rattle.definition.specs.declared.state.SavedContext.TheVariants.{Unheld, Held}
 use Rattle.definition.specs.declared.state.State.{State}
 use Rattle.definition.specs.Registers.{zeros}
 use Rattle.definition.specs.State.{World, world, is_held}
@@ -19,8 +12,10 @@ use Rattle.definition.specs.Step.{saved_for, step}
 use Rattle.definition.specs.Run.{step_of}
 use Rattle.storage.specs.declared.control.Control.{Control}
 use Rattle.storage.specs.Control.{with_registers}
-use Rattle.clock.specs.Upcoming.{CanPass}
-use Rattle.interrupt.specs.declared.service.StepResult.{StepResult}
+use Rattle.clock.specs.declared.time.Requests.{Requests}
+use Rattle.clock.specs.Requests.{CanPass}
+use Rattle.answers.specs.declared.answer.Outcome.{Outcome}
+use Rattle.storage.specs.declared.answered.Answered.{Answered}
 use Rattle.fast.specs.declared.steps.FastProgress.{FastProgress}
 use Rattle.fast.specs.Steps.{RanSteps, FastSteps, fast_state, saved_after}
 use Rattle.fast.proofs.FastSteps.{fast_steps_ran}
@@ -28,13 +23,13 @@ use Rattle.interrupt.proofs.Yields.{Yields}
 use Rattle.inplace.specs.internal.InPlace.{control_after, FastUntil, FastRanSteps}
 use Rattle.inplace.proofs.RanLaws.{ran_none}
 
-pub saved_held : (v : SavedContext) (saved : List ℕ) → is_held v ≡ true → saved_for v saved ≡ saved
-saved_held Unheld saved e = absurd (true≢false (sym e))
-saved_held (Held previous age) saved e = refl
+pub saved_held : (v : Option SavedContext) (saved : List ℕ) → is_held v ≡ true → saved_for v saved ≡ saved
+saved_held None saved e = absurd (true≢false (sym e))
+saved_held (Some _) saved e = refl
 
-pub saved_unheld : (v : SavedContext) (saved : List ℕ) → is_held v ≡ false → saved_for v saved ≡ zeros
-saved_unheld Unheld saved e = refl
-saved_unheld (Held previous age) saved e = absurd (true≢false e)
+pub saved_unheld : (v : Option SavedContext) (saved : List ℕ) → is_held v ≡ false → saved_for v saved ≡ zeros
+saved_unheld None saved e = refl
+saved_unheld (Some _) saved e = absurd (true≢false e)
 
 module _ (S : Setting) where
   -- fast steps up to such a clock value are steps that only ran
@@ -62,15 +57,15 @@ module _ (S : Setting) where
         (when_false _ _ _ (ne_eqb progress.steps 0 (λ z. absurd (omega arith))) ∙ sym e) (q saved))
 
   -- what a full step leaves, apart and joined again
-  pub full_gives : (rs saved mem bytes rs' saved' : List ℕ) (c d : Control) (m : State) (done : StepResult) → m ≡ with_registers rs saved c
-      → Yields done bytes (step S m mem) → with_registers rs' saved' d ≡ done.state
-      → gives (with_registers rs' saved' d) bytes done.outcome ≡ step_of S (world (with_registers rs saved c) mem)
+  pub full_gives : (rs saved mem bytes rs' saved' : List ℕ) (c d : Control) (m : State) (done : Answered State Outcome) → m ≡ with_registers rs saved c
+      → Yields done bytes (step S m mem) → with_registers rs' saved' d ≡ done.machine
+      → gives (with_registers rs' saved' d) bytes done.answer ≡ step_of S (world (with_registers rs saved c) mem)
   full_gives rs saved mem bytes rs' saved' c d m done e h k =
-      ap (λ (z : State). gives z bytes done.outcome) k
-      ∙ ap (λ (z : StepResult). gives z.state bytes z.outcome) h.0
+      ap (λ (z : State). gives z bytes done.answer) k
+      ∙ ap (λ (z : Answered State Outcome). gives z.machine bytes z.answer) h.0
       ∙ ap (λ (z : List ℕ). gives (step S m mem).state z (step S m mem).outcome) h.1
       ∙ ap (λ (z : State). step S z mem) e
 
 -- cycles can pass from the same clock value
-pub can_pass_at : {stamps : List ℕ} {a b upcoming n : ℕ} → a ≡ b → CanPass stamps b upcoming n → CanPass stamps a upcoming n
-can_pass_at {stamps} {upcoming = upcoming} {n = n} e r = subst (λ (z : ℕ). CanPass stamps z upcoming n) (sym e) r
+pub can_pass_at : {r : Requests} {a b n : ℕ} → a ≡ b → CanPass r b n → CanPass r a n
+can_pass_at {r} {n = n} e h = subst (λ (z : ℕ). CanPass r z n) (sym e) h

@@ -1,7 +1,5 @@
 -- Steps that only ran: none of them, and one. Assumes nothing.
-use mathlib.Core.Path.{◌≡◌, refl, sym, ◌∙◌, ap}
-use Prim.Native.Nat.{ℕ, ◌≤◌}
-use native.Mathlib.Omega.{arith}
+use Rattle.std.proofs.Common.{◌≡◌, ℕ, ◌≤◌, refl, sym, ◌∙◌, ap, arith}
 use Rattle.definition.specs.Setting.{Setting}
 use Rattle.answers.specs.declared.answer.Outcome.TheVariants.{Ran}
 use Rattle.definition.specs.State.{World}

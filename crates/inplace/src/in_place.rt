@@ -2,32 +2,24 @@
 ghost use Rattle.std.specs.Prelude.{◌≡◌, true, ◌≤◌};
 ghost use Rattle.base.specs.Limits.{last_clock};
 ghost use Rattle.layout.specs.declared.sections.Layout.{Layout as LAYOUT};
-ghost use Rattle.definition.specs.Setting.{setting_of};
 ghost use Rattle.definition.specs.State.{world};
 ghost use Rattle.definition.specs.Interrupt.{gives};
 ghost use Rattle.definition.specs.Step.{saved_for};
 ghost use Rattle.definition.specs.Run.{step_of};
-ghost use Rattle.definition.specs.Calls.{timetable};
-ghost use Rattle.clock.specs.Upcoming.{IsUpcoming};
+ghost use Rattle.clock.specs.Requests.{setting_with, AtClock};
 ghost use Rattle.storage.specs.Control.{with_registers};
 ghost use Rattle.inplace.specs.internal.InPlace.{control_after, FastUntil};
 
 use alu::status::gie_is_set;
 use answers::answer::Outcome;
-use clock::time::no_event_until;
+use clock::time::Requests;
 use definition::state::{SavedContext, State, Time};
 use fast::steps::{FastProgress, fast_steps};
 use layout::sections::Layout;
 use step::step::{is_held, take_step};
+use storage::answered::Answered;
 use storage::control::Control;
 use storage::registers::zero_registers;
-
-// What a step makes beside the registers, which it changes where they lie.
-#[derive(Clone, Copy)]
-pub struct InPlaceStep {
-    pub control: Control,
-    pub outcome: Outcome,
-}
 
 // What is beside the registers after fast steps. Where nothing is held, the saved copy is handed back zero, as by every step.
 pub fn after_fast(control: Control, progress: FastProgress, saved: &mut [u16; 16]) -> Control
@@ -43,13 +35,13 @@ pub fn after_fast(control: Control, progress: FastProgress, saved: &mut [u16; 16
     Control {
         previous: progress.previous,
         time: later,
-        context: context,
+        context,
         halted: control.halted,
     }
 }
 
 // Where nothing is held, the saved copy is handed back zero.
-fn clear_unheld(context: SavedContext, saved: &mut [u16; 16])
+fn clear_unheld(context: Option<SavedContext>, saved: &mut [u16; 16])
     ensures { saved.new ≡ saved_for context saved.old }
 {
     if is_held(context) {
@@ -69,12 +61,12 @@ pub fn put_back(next: State, registers: &mut [u16; 16], saved: &mut [u16; 16]) -
     Control::of(next)
 }
 
-// The clock value up to which fast steps may go: up to it time only goes on and no interrupt is due. 0 where there is none.
-pub fn fast_until(control: Control, status: u16, stamps: &[u64], upcoming: usize) -> u64
-    ensures { (L : LAYOUT) → timetable stamps.now ≡ true → IsUpcoming stamps.now control.time.clock upcoming → FastUntil (setting_of L stamps.now) status control result }
+// The clock value up to which fast steps may go: up to it time only goes on and no interrupt is due. 0 where there is none: no step ends at or before it.
+pub fn fast_until(control: Control, status: u16, requests: Requests<'_>) -> u64
+    ensures { (L : LAYOUT) → AtClock requests.entry control.time.clock → FastUntil (setting_with L requests.entry) status control result }
 {
     let time = control.time;
-    no_event_until(control.halted, !gie_is_set(status), time, stamps, upcoming)
+    requests.no_event_until(control.halted, !gie_is_set(status), time)
 }
 
 // One step by itself, fast if it can be.
@@ -84,14 +76,13 @@ pub fn one_step(
     saved: &mut [u16; 16],
     mem: &mut [u8],
     layout: Layout,
-    stamps: &[u64],
-    upcoming: usize,
-) -> InPlaceStep
-    ensures { timetable stamps.now ≡ true → control.time.clock ≤ last_clock → IsUpcoming stamps.now control.time.clock upcoming → gives (with_registers registers.new saved.new result.control) mem.new result.outcome ≡ step_of (setting_of layout stamps.now) (world (with_registers registers.old saved.old control) mem.old) }
+    requests: Requests<'_>,
+) -> Answered<Control, Outcome>
+    ensures { control.time.clock ≤ last_clock → AtClock requests.entry control.time.clock → gives (with_registers registers.new saved.new result.machine) mem.new result.answer ≡ step_of (setting_with layout requests.entry) (world (with_registers registers.old saved.old control) mem.old) }
 {
     let context = control.context;
     let clock = control.time.clock;
-    let until = fast_until(control, registers[2], stamps, upcoming);
+    let until = fast_until(control, registers[2], requests);
     let burst = fast_steps(
         registers,
         control.previous,
@@ -103,17 +94,17 @@ pub fn one_step(
         1,
     );
     if burst.steps > 0 {
-        return InPlaceStep {
-            control: after_fast(control, burst, saved),
-            outcome: Outcome::Ran,
+        return Answered {
+            machine: after_fast(control, burst, saved),
+            answer: Outcome::Ran,
         };
     }
     let m = control.state(*registers, *saved);
-    let done = take_step(m, mem, layout, stamps, upcoming);
-    let next = done.state;
-    let outcome = done.outcome;
-    InPlaceStep {
-        control: put_back(next, registers, saved),
-        outcome: outcome,
+    let done = take_step(m, mem, layout, requests);
+    let next = done.machine;
+    let outcome = done.answer;
+    Answered {
+        machine: put_back(next, registers, saved),
+        answer: outcome,
     }
 }

@@ -1,32 +1,24 @@
 // Reset, the three ways that a service starts, and the return from a held visit.
 ghost use Rattle.std.specs.Prelude.{◌≡◌, ◌+◌, ◌≤◌, [], set};
 ghost use Rattle.layout.specs.declared.sections.Layout.{Layout as LAYOUT};
-ghost use Rattle.definition.specs.Setting.{setting_of};
 ghost use Rattle.definition.specs.State.{reset_address, from_vector, reset_state};
-ghost use Rattle.definition.specs.declared.state.Stamp.TheVariants.{At as AT};
 ghost use Rattle.answers.specs.declared.answer.Outcome.TheVariants.{Ran as RAN};
 ghost use Rattle.interrupt.specs.StepResult.{step_result};
 ghost use Rattle.definition.specs.Interrupt.{age_of, due, reset, plain, padded, interrupted, chained, back, resumed};
-ghost use Rattle.clock.specs.Upcoming.{CanPass};
+ghost use Rattle.clock.specs.Requests.{setting_with, CanPass};
 
 use alu::status::gie_is_set;
 use answers::answer::{Cause, Outcome};
-use base::test::both;
 use base::word::{difference, drop_bit_0};
-use clock::time::{emptied, wait};
-use definition::state::{SavedContext, Stamp, State, Time};
+use clock::time::{Requests, emptied};
+use definition::state::{SavedContext, State, Time};
 use layout::sections::Layout;
+use storage::answered::Answered;
 use storage::memory::{put_word, word_at};
 use storage::registers::{cleared_registers, read_register, set_register, zero_registers};
 
-// What a step makes: the state after it and its outcome. Memory is written where it lies.
-#[derive(Clone, Copy)]
-pub struct StepResult {
-    pub state: State,
-    pub outcome: Outcome,
-}
-
 // Where a reset goes: the word at FFFE less its bit 0.
+#[tactic(auto, unfolding(definition::specs::State::reset_address))]
 pub fn reset_address(mem: &[u8]) -> u16
     ensures { result ≡ reset_address mem.now }
 {
@@ -34,15 +26,20 @@ pub fn reset_address(mem: &[u8]) -> u16
 }
 
 // A machine whose previous address is FFFE: at the start, after a reset, and once a service starts.
-fn from_vector(registers: [u16; 16], time: Time, context: SavedContext, saved: [u16; 16]) -> State
+fn from_vector(
+    registers: [u16; 16],
+    time: Time,
+    context: Option<SavedContext>,
+    saved: [u16; 16],
+) -> State
     ensures { result ≡ from_vector registers time context saved }
 {
     State {
-        registers: registers,
+        registers,
         previous: 0xfffe,
-        time: time,
-        context: context,
-        saved: saved,
+        time,
+        context,
+        saved,
         halted: false,
     }
 }
@@ -51,10 +48,11 @@ fn from_vector(registers: [u16; 16], time: Time, context: SavedContext, saved: [
 pub fn reset_state(registers: [u16; 16], time: Time) -> State
     ensures { result ≡ reset_state registers time }
 {
-    from_vector(registers, time, SavedContext::Unheld, zero_registers())
+    from_vector(registers, time, None, zero_registers())
 }
 
 // Clock minus stamp, at most 6 counted.
+#[tactic(auto, unfolding(definition::specs::Interrupt::age_of))]
 fn age_of(clock: u64, stamp: u64) -> u8
     ensures { (result ≡ age_of clock stamp) × (result ≤ 6) }
 {
@@ -68,7 +66,7 @@ fn age_of(clock: u64, stamp: u64) -> u8
 }
 
 // The interrupt that is due: GIE set and the slot filled.
-pub fn due_stamp(m: State) -> Stamp
+pub fn due_stamp(m: State) -> Option<u64>
     ensures { result ≡ due m }
 {
     let registers = m.registers;
@@ -77,18 +75,19 @@ pub fn due_stamp(m: State) -> Stamp
     if gie_is_set(read_register(registers, 2)) {
         return slot;
     }
-    Stamp::Never
+    None
 }
 
 // Reset: 4 cycles pass; then the slot empties, a held visit is dropped, registers become 0 but pc.
-pub fn reset(m: State, mem: &[u8], stamps: &[u64], upcoming: usize, cause: Cause) -> StepResult
-    ensures { (L : LAYOUT) → CanPass stamps.now m.time.clock upcoming 4 → result ≡ step_result (reset (setting_of L stamps.now) cause m mem.now) }
+#[tactic(auto, unfolding(definition::specs::Interrupt::reset))]
+pub fn reset(m: State, mem: &[u8], requests: Requests<'_>, cause: Cause) -> Answered<State, Outcome>
+    ensures { (L : LAYOUT) → CanPass requests.entry m.time.clock 4 → result ≡ step_result (reset (setting_with L requests.entry) cause m mem.now) }
 {
     let time = m.time;
     let registers = cleared_registers(reset_address(mem));
-    StepResult {
-        state: reset_state(registers, emptied(wait(time, stamps, upcoming, 4))),
-        outcome: Outcome::Reset(cause),
+    Answered {
+        machine: reset_state(registers, emptied(requests.wait(time, 4))),
+        answer: Outcome::Reset(cause),
     }
 }
 
@@ -104,8 +103,13 @@ fn pushed_registers(registers: [u16; 16], sp: u16, service: u16) -> [u16; 16]
 }
 
 // Plain: pc and sr are pushed, 6 cycles pass; a reset where either word is code or data.
-fn plain(m: State, mem: &mut [u8], layout: Layout, stamps: &[u64], upcoming: usize) -> StepResult
-    ensures { CanPass stamps.now m.time.clock upcoming 6 → (result ≡ step_result (plain (setting_of layout stamps.now) m mem.old)) × (mem.new ≡ (plain (setting_of layout stamps.now) m mem.old).memory) }
+fn plain(
+    m: State,
+    mem: &mut [u8],
+    layout: Layout,
+    requests: Requests<'_>,
+) -> Answered<State, Outcome>
+    ensures { CanPass requests.entry m.time.clock 6 → (result ≡ step_result (plain (setting_with layout requests.entry) m mem.old)) × (mem.new ≡ (plain (setting_with layout requests.entry) m mem.old).memory) }
 {
     let registers = m.registers;
     let saved = m.saved;
@@ -113,39 +117,39 @@ fn plain(m: State, mem: &mut [u8], layout: Layout, stamps: &[u64], upcoming: usi
     let time = m.time;
     let high = difference(read_register(registers, 1), 2);
     let low = difference(read_register(registers, 1), 4);
-    if !both(layout.outside(high), layout.outside(low)) {
-        return reset(m, mem, stamps, upcoming, Cause::Write);
+    if !(layout.outside(high) && layout.outside(low)) {
+        return reset(m, mem, requests, Cause::Write);
     }
     put_word(mem, high, read_register(registers, 0));
     put_word(mem, low, read_register(registers, 2));
-    let after = wait(emptied(time), stamps, upcoming, 6);
-    StepResult {
-        state: from_vector(
+    let after = requests.wait(emptied(time), 6);
+    Answered {
+        machine: from_vector(
             pushed_registers(registers, low, layout.service),
             after,
             context,
             saved,
         ),
-        outcome: Outcome::Plain,
+        answer: Outcome::Plain,
     }
 }
 
 // Padded: 6 - age cycles pass, the slot empties, 6 more pass; registers, previous address and age are held.
-fn padded(m: State, layout: Layout, stamps: &[u64], upcoming: usize, stamp: u64) -> StepResult
-    ensures { CanPass stamps.now m.time.clock upcoming 12 → result ≡ step_result (padded (setting_of layout stamps.now) stamp m []) }
+fn padded(m: State, layout: Layout, requests: Requests<'_>, stamp: u64) -> Answered<State, Outcome>
+    ensures { CanPass requests.entry m.time.clock 12 → result ≡ step_result (padded (setting_with layout requests.entry) stamp m []) }
 {
     let registers = m.registers;
     let time = m.time;
     let age = age_of(time.clock, stamp);
-    let waited = wait(time, stamps, upcoming, (6 - age) as u64);
-    let after = wait(emptied(waited), stamps, upcoming, 6);
-    let context = SavedContext::Held {
+    let waited = requests.wait(time, (6 - age) as u64);
+    let after = requests.wait(emptied(waited), 6);
+    let context = Some(SavedContext {
         previous: m.previous,
-        age: age,
-    };
-    StepResult {
-        state: from_vector(cleared_registers(layout.service), after, context, registers),
-        outcome: Outcome::Padded,
+        age,
+    });
+    Answered {
+        machine: from_vector(cleared_registers(layout.service), after, context, registers),
+        answer: Outcome::Padded,
     }
 }
 
@@ -154,54 +158,47 @@ pub fn serve(
     m: State,
     mem: &mut [u8],
     layout: Layout,
-    stamps: &[u64],
-    upcoming: usize,
+    requests: Requests<'_>,
     inside: bool,
     stamp: u64,
-) -> StepResult
-    ensures { CanPass stamps.now m.time.clock upcoming 12 → (result ≡ step_result (interrupted (setting_of layout stamps.now) inside RAN m mem.old (AT stamp))) × (mem.new ≡ (interrupted (setting_of layout stamps.now) inside RAN m mem.old (AT stamp)).memory) }
+) -> Answered<State, Outcome>
+    ensures { CanPass requests.entry m.time.clock 12 → (result ≡ step_result (interrupted (setting_with layout requests.entry) inside RAN m mem.old (Some stamp))) × (mem.new ≡ (interrupted (setting_with layout requests.entry) inside RAN m mem.old (Some stamp)).memory) }
 {
     if inside {
-        return padded(m, layout, stamps, upcoming, stamp);
+        return padded(m, layout, requests, stamp);
     }
-    plain(m, mem, layout, stamps, upcoming)
+    plain(m, mem, layout, requests)
 }
 
 // Chained: the slot empties, registers are cleared, 6 cycles pass, the visit stays held.
+#[tactic(auto, unfolding(definition::specs::Interrupt::chained, definition::specs::Time::emptied))]
 fn chained(
     time: Time,
-    context: SavedContext,
+    context: Option<SavedContext>,
     saved: [u16; 16],
     layout: Layout,
-    stamps: &[u64],
-    upcoming: usize,
-) -> StepResult
-    ensures { CanPass stamps.now time.clock upcoming 6 → result ≡ step_result (chained (setting_of layout stamps.now) time context saved []) }
+    requests: Requests<'_>,
+) -> Answered<State, Outcome>
+    ensures { CanPass requests.entry time.clock 6 → result ≡ step_result (chained (setting_with layout requests.entry) time context saved []) }
 {
-    let after = wait(emptied(time), stamps, upcoming, 6);
-    StepResult {
-        state: from_vector(cleared_registers(layout.service), after, context, saved),
-        outcome: Outcome::Chained,
+    let after = requests.wait(emptied(time), 6);
+    Answered {
+        machine: from_vector(cleared_registers(layout.service), after, context, saved),
+        answer: Outcome::Chained,
     }
 }
 
 // Back: registers and previous address return, age cycles pass.
-fn back(
-    time: Time,
-    previous: u16,
-    age: u8,
-    saved: [u16; 16],
-    stamps: &[u64],
-    upcoming: usize,
-) -> State
-    ensures { (L : LAYOUT) → CanPass stamps.now time.clock upcoming age → result ≡ back (setting_of L stamps.now) time previous age saved }
+#[tactic(auto, unfolding(definition::specs::Interrupt::back))]
+fn back(time: Time, visit: SavedContext, saved: [u16; 16], requests: Requests<'_>) -> State
+    ensures { (L : LAYOUT) → CanPass requests.entry time.clock visit.age → result ≡ back (setting_with L requests.entry) time visit.previous visit.age saved }
 {
-    let after = wait(time, stamps, upcoming, age as u64);
+    let after = requests.wait(time, visit.age as u64);
     State {
         registers: saved,
-        previous: previous,
+        previous: visit.previous,
         time: after,
-        context: SavedContext::Unheld,
+        context: None,
         saved: zero_registers(),
         halted: false,
     }
@@ -210,32 +207,24 @@ fn back(
 // RETI while a visit is held, its 5 cycles passed: chained if the slot is filled; else back, and the padded check once more.
 pub fn resume(
     time: Time,
-    previous: u16,
-    age: u8,
+    visit: SavedContext,
     saved: [u16; 16],
     layout: Layout,
-    stamps: &[u64],
-    upcoming: usize,
-) -> StepResult
-    ensures { CanPass stamps.now time.clock upcoming (age + 12) → result ≡ step_result (resumed (setting_of layout stamps.now) time previous age saved [] time.slot) }
+    requests: Requests<'_>,
+) -> Answered<State, Outcome>
+    ensures { CanPass requests.entry time.clock (visit.age + 12) → result ≡ step_result (resumed (setting_with layout requests.entry) time visit.previous visit.age saved [] time.slot) }
 {
     let slot = time.slot;
     match slot {
-        Stamp::At(_) => {
-            let context = SavedContext::Held {
-                previous: previous,
-                age: age,
-            };
-            chained(time, context, saved, layout, stamps, upcoming)
-        }
-        Stamp::Never => {
-            let m = back(time, previous, age, saved, stamps, upcoming);
+        Some(_) => chained(time, Some(visit), saved, layout, requests),
+        None => {
+            let m = back(time, visit, saved, requests);
             match due_stamp(m) {
-                Stamp::Never => StepResult {
-                    state: m,
-                    outcome: Outcome::Back,
+                None => Answered {
+                    machine: m,
+                    answer: Outcome::Back,
                 },
-                Stamp::At(stamp) => padded(m, layout, stamps, upcoming, stamp),
+                Some(stamp) => padded(m, layout, requests, stamp),
             }
         }
     }

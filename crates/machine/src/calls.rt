@@ -4,17 +4,17 @@ ghost use Rattle.definition.specs.State.{world};
 ghost use Rattle.definition.specs.Promises.{StartPromise, StepPromise, RunPromise};
 ghost use Rattle.storage.specs.Control.{with_registers};
 
-use crate::answer::{Ran, Started, Stepped, SteppedInPlace};
 use admission::verdict::{judge_run, judge_step, memory_is_whole};
-use answers::answer::{RunAnswer, StartAnswer, StepAnswer};
+use answers::answer::{Outcome, Stopped};
 use base::refusal::Refusal;
-use base::verdict::Verdict;
-use clock::time::{find_upcoming, start_time};
+use clock::time::start_time;
+use clock::timetable::Timetable;
 use definition::state::State;
 use inplace::in_place::one_step;
 use interrupt::service::{reset_address, reset_state};
 use layout::sections::Layout;
-use run::run::{InPlaceRun, run_steps};
+use run::run::run_steps;
+use storage::answered::Answered;
 use storage::control::Control;
 use storage::registers::cleared_registers;
 
@@ -24,23 +24,28 @@ pub struct Machine(pub State);
 
 impl Machine {
     // The start state of a memory. Where it is refused, the machine beside the answer is that of an empty memory.
-    pub fn start(mem: &[u8]) -> Started
+    pub fn start(mem: &[u8]) -> Answered<Machine, Result<(), Refusal>>
         ensures { StartPromise mem.now result.machine.0 result.answer }
     {
         if !memory_is_whole(mem) {
-            return Started {
+            return Answered {
                 machine: Machine(reset_state(cleared_registers(0), start_time())),
-                answer: StartAnswer::Refused(Refusal::Map),
+                answer: Err(Refusal::Map),
             };
         }
-        Started {
+        Answered {
             machine: Machine(reset_state(cleared_registers(reset_address(mem)), start_time())),
-            answer: StartAnswer::Done,
+            answer: Ok(()),
         }
     }
 
     // One step.
-    pub fn step(self, mem: &mut [u8], layout: Layout, stamps: &[u64]) -> Stepped
+    pub fn step(
+        self,
+        mem: &mut [u8],
+        layout: Layout,
+        stamps: &[u64],
+    ) -> Answered<Machine, Result<Outcome, Refusal>>
         ensures { StepPromise (setting_of layout stamps.now) (world self.0 mem.old) (world result.machine.0 mem.new) result.answer }
     {
         let state = self.0;
@@ -54,16 +59,22 @@ impl Machine {
             layout,
             stamps,
         );
-        let control = done.control;
+        let control = done.machine;
         let answer = done.answer;
-        Stepped {
+        Answered {
             machine: Machine(control.state(registers, saved)),
-            answer: answer,
+            answer,
         }
     }
 
     // Steps until the machine is halted, its clock is above 2^62 or the budget is spent.
-    pub fn run(self, mem: &mut [u8], layout: Layout, stamps: &[u64], budget: u64) -> Ran
+    pub fn run(
+        self,
+        mem: &mut [u8],
+        layout: Layout,
+        stamps: &[u64],
+        budget: u64,
+    ) -> Answered<Machine, Result<Stopped, Refusal>>
         ensures { RunPromise (setting_of layout stamps.now) budget (world self.0 mem.old) (world result.machine.0 mem.new) result.answer }
     {
         let state = self.0;
@@ -78,11 +89,11 @@ impl Machine {
             stamps,
             budget,
         );
-        let last = done.control;
+        let last = done.machine;
         let answer = done.answer;
-        Ran {
+        Answered {
             machine: Machine(last.state(registers, saved)),
-            answer: answer,
+            answer,
         }
     }
 }
@@ -95,22 +106,23 @@ pub fn step_in_place(
     mem: &mut [u8],
     layout: Layout,
     stamps: &[u64],
-) -> SteppedInPlace
-    ensures { StepPromise (setting_of layout stamps.now) (world (with_registers registers.old saved.old control) mem.old) (world (with_registers registers.new saved.new result.control) mem.new) result.answer }
+) -> Answered<Control, Result<Outcome, Refusal>>
+    ensures { StepPromise (setting_of layout stamps.now) (world (with_registers registers.old saved.old control) mem.old) (world (with_registers registers.new saved.new result.machine) mem.new) result.answer }
 {
     match judge_step(control, registers, saved, mem, layout, stamps) {
-        Verdict::Refused(refusal) => SteppedInPlace {
-            control: control,
-            answer: StepAnswer::Refused(refusal),
+        Err(refusal) => Answered {
+            machine: control,
+            answer: Err(refusal),
         },
-        Verdict::Taken => {
-            let upcoming = find_upcoming(stamps, control.time.clock);
-            let moved = one_step(control, registers, saved, mem, layout, stamps, upcoming);
-            let next = moved.control;
-            let outcome = moved.outcome;
-            SteppedInPlace {
-                control: next,
-                answer: StepAnswer::Done(outcome),
+        Ok(()) => {
+            let timetable = Timetable { stamps };
+            let requests = timetable.requests_at(control.time.clock);
+            let moved = one_step(control, registers, saved, mem, layout, requests);
+            let next = moved.machine;
+            let outcome = moved.answer;
+            Answered {
+                machine: next,
+                answer: Ok(outcome),
             }
         }
     }
@@ -125,14 +137,17 @@ pub fn run_in_place(
     layout: Layout,
     stamps: &[u64],
     budget: u64,
-) -> InPlaceRun
-    ensures { RunPromise (setting_of layout stamps.now) budget (world (with_registers registers.old saved.old control) mem.old) (world (with_registers registers.new saved.new result.control) mem.new) result.answer }
+) -> Answered<Control, Result<Stopped, Refusal>>
+    ensures { RunPromise (setting_of layout stamps.now) budget (world (with_registers registers.old saved.old control) mem.old) (world (with_registers registers.new saved.new result.machine) mem.new) result.answer }
 {
     match judge_run(control, registers, saved, mem, layout, stamps, budget) {
-        Verdict::Refused(refusal) => InPlaceRun {
-            control: control,
-            answer: RunAnswer::Refused(refusal),
+        Err(refusal) => Answered {
+            machine: control,
+            answer: Err(refusal),
         },
-        Verdict::Taken => run_steps(control, registers, saved, mem, layout, stamps, budget),
+        Ok(()) => {
+            let timetable = Timetable { stamps };
+            run_steps(control, registers, saved, mem, layout, timetable, budget)
+        }
     }
 }

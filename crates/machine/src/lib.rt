@@ -1,5 +1,4 @@
 // What callers reach: start, step and run.
 #![tactic(auto)]
 
-pub mod answer;
 pub mod calls;

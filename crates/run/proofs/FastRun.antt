@@ -1,8 +1,5 @@
 -- What the body of a run's loop does: a burst of fast steps, or one step. Assumes nothing.
-use mathlib.Core.Path.{◌≡◌, sym, ◌∙◌, ap}
-use mathlib.Core.Bool.{false}
-use Prim.Native.Nat.{ℕ, suc, ◌+◌, ◌-◌, ◌≤◌}
-use native.Mathlib.Omega.{arith}
+use Rattle.std.proofs.Common.{◌≡◌, ℕ, suc, ◌+◌, ◌-◌, ◌≤◌, false, sym, ◌∙◌, ap, arith}
 use Rattle.base.specs.Limits.{last_clock}
 use Rattle.definition.specs.Setting.{Setting}
 use Rattle.definition.specs.State.{World}

@@ -1,20 +1,19 @@
 -- What each turn of a run's loop does and keeps: what is left to do from here lands where the whole run lands. Assumes nothing.
-use mathlib.Core.Path.{◌≡◌, ◌∙◌, ap}
-use mathlib.Core.Bool.{true, false}
-use Prim.Native.Nat.{ℕ, zero, suc, ◌+◌, ◌-◌, ◌≤◌, ◌<◌}
-use native.Mathlib.Omega.{arith}
-use lib.ListN.{length}
-use borrow.Author.Tests.{lt-ltb, le-ltb}
+use Rattle.std.proofs.Common.{◌≡◌, ℕ, zero, suc, ◌+◌, ◌-◌, ◌≤◌, ◌<◌, true, false, length, refl, sym, ◌∙◌, ap, arith, lt-ltb, le-ltb}
 use Rattle.base.proofs.Tests.{when_true, when_false}
 use Rattle.base.specs.Limits.{last_clock}
-use Rattle.definition.specs.Setting.{Setting}
+use Rattle.layout.specs.declared.sections.Layout.{Layout}
+use Rattle.definition.specs.Setting.{Setting, setting_of}
 use Rattle.definition.specs.declared.state.State.{State}
 use Rattle.answers.specs.declared.answer.End.{End}
 use Rattle.answers.specs.declared.answer.End.TheVariants.{Halted, Clock, Spent}
 use Rattle.definition.specs.State.{World}
 use Rattle.definition.specs.Run.{goes, stops, ending, run_from, run, stop_or}
-use Rattle.clock.specs.Upcoming.{StampsPassed, IsUpcoming, step_room, CanPass}
-use Rattle.definition.specs.Calls.{timetable}
+use Rattle.clock.specs.declared.timetable.Timetable.{Timetable}
+use Rattle.clock.specs.declared.time.Requests.{Requests}
+use Rattle.clock.specs.Upcoming.{step_room}
+use Rattle.clock.specs.Requests.{setting_with, HasPassed, AtClock, CanPass}
+use Rattle.clock.proofs.UpcomingLaws.{passed_later}
 
 -- why the loop leaves, and where it does not
 pub ending_halted : (m : State) → m.halted ≡ true → ending m ≡ stops Halted
@@ -29,6 +28,13 @@ pub ending_goes : (m : State) → m.halted ≡ false → m.time.clock ≤ last_c
 unfolding ending
 ending_goes m h k = when_false _ _ _ h ∙ when_false _ _ _ (le-ltb _ _ k)
 
+-- a run that has made n steps of its budget and is at this world and these requests
+pub record LoopKeeps (L : Layout) (budget : ℕ) (from w : World) (n : ℕ) (r : Requests) : Type 0 where
+  pub size : length w.memory ≡ length from.memory
+  pub within : n ≤ budget
+  pub here : AtClock r w.state.time.clock
+  pub lands : run (setting_with L r) budget from ≡ run_from (setting_with L r) n (budget - n) w
+
 module _ (S : Setting) where
   -- what a turn of the loop does: k steps of those that are left, and what is left then lands where the run does
   pub record LoopStep (left : ℕ) (w : World) (k : ℕ) (next : World) : Type 0 where
@@ -37,33 +43,37 @@ module _ (S : Setting) where
     pub rises : w.state.time.clock ≤ next.state.time.clock
     pub lands : (n : ℕ) → run_from S n left w ≡ run_from S (n + k) (left - k) next
 
-  -- a run of a timetable that has made n steps of its budget and is at this world and upcoming stamp
-  pub record LoopKeeps (budget : ℕ) (from w : World) (n upcoming : ℕ) : Type 0 where
-    pub upcoming_here : IsUpcoming S.stamps w.state.time.clock upcoming
-    pub lands : run S budget from ≡ run_from S n (budget - n) w
-
-  -- a run, whatever its stamps
-  pub record RunKeeps (budget : ℕ) (from w : World) (n upcoming : ℕ) : Type 0 where
-    pub size : length w.memory ≡ length from.memory
-    pub within : n ≤ budget
-    pub timed : timetable S.stamps ≡ true → LoopKeeps budget from w n upcoming
-
-  pub loop_first : (budget : ℕ) (w : World) (upcoming : ℕ)
-      → IsUpcoming S.stamps w.state.time.clock upcoming → LoopKeeps budget w w 0 upcoming
+module _ (L : Layout) (budget : ℕ) where
+  pub loop_first : (w : World) (r : Requests) → AtClock r w.state.time.clock → LoopKeeps L budget w w 0 r
   unfolding run
-  loop_first budget w upcoming p =
+  loop_first w r p =
       let e : budget - 0 ≡ budget = omega arith in
-      record { upcoming_here = p; lands = rw e }
+      record { size = refl; within = omega arith; here = p; lands = rw e }
 
-  module _ (budget : ℕ) (from w : World) (n upcoming : ℕ) (t : LoopKeeps budget from w n upcoming) where
+  module _ (from w : World) (n : ℕ) (r : Requests) (t : LoopKeeps L budget from w n r) where
+    abbrev S : Setting
+    S = setting_with L r
+
+    -- the requests of the same timetable
+    same : (next : Requests) → next.timetable ≡ r.timetable → setting_with L next ≡ S
+    same next e = ap (λ (z : Timetable). setting_of L z.stamps.now) e
+
     -- a step of the loop
-    pub loop_next : (k : ℕ) (next : World) → LoopStep (budget - n) w k next → (further : ℕ)
-        → IsUpcoming S.stamps next.state.time.clock further → LoopKeeps budget from next (n + k) further
-    loop_next k next u further p =
-        let e : budget - n - k ≡ budget - (n + k) = omega arith in
+    pub loop_next : (k : ℕ) (next : World) → LoopStep S (budget - n) w k next → length next.memory ≡ length w.memory
+        → (further : Requests) → further.timetable ≡ r.timetable → AtClock further next.state.time.clock
+        → LoopKeeps L budget from next (n + k) further
+    loop_next k next u size further e p =
+        let i = t.within in
+        let j = u.within in
+        let f : budget - n - k ≡ budget - (n + k) = omega arith in
         record {
-          upcoming_here = p;
-          lands = t.lands ∙ u.lands n ∙ ap (λ (z : ℕ). run_from S (n + k) z next) e;
+          size = size ∙ t.size;
+          within = omega arith;
+          here = p;
+          lands =
+              ap (λ (z : Setting). run z budget from) (same further e)
+              ∙ t.lands ∙ u.lands n ∙ ap (λ (z : ℕ). run_from S (n + k) z next) f
+              ∙ ap (λ (z : Setting). run_from z (n + k) (budget - (n + k)) next) (sym (same further e));
         }
 
     -- a machine that stops, whatever is left
@@ -88,14 +98,9 @@ module _ (S : Setting) where
     loop_spent e h k = t.lands ∙ spending _ (omega arith) (ending_goes _ h k)
 
     -- what a step asks for
-    pub loop_can_pass : timetable S.stamps ≡ true → w.state.time.clock ≤ last_clock
-        → CanPass S.stamps w.state.time.clock upcoming step_room
-    loop_can_pass h k = record { timed = h; passed = t.upcoming_here.passed; room = omega arith }
+    pub loop_can_pass : w.state.time.clock ≤ last_clock → CanPass r w.state.time.clock step_room
+    loop_can_pass k = record { passed = t.here.passed; room = omega arith }
 
     -- and what finding the next upcoming stamp asks for
-    pub loop_passed : (clock : ℕ) → w.state.time.clock ≤ clock → StampsPassed S.stamps clock upcoming
-    loop_passed clock g =
-        record {
-          fits = t.upcoming_here.passed.fits;
-          gone = λ i j. let o = t.upcoming_here.passed.gone i j in omega arith;
-        }
+    pub loop_passed : (clock : ℕ) → w.state.time.clock ≤ clock → HasPassed r clock
+    loop_passed clock g = passed_later _ _ _ clock g t.here

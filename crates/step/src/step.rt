@@ -1,20 +1,20 @@
 // One step: judged, then acting, then its cycles, then the interrupt.
 ghost use Rattle.std.specs.Prelude.{◌≡◌, ◌≤◌};
-ghost use Rattle.definition.specs.Setting.{setting_of};
 ghost use Rattle.definition.specs.State.{is_held};
 ghost use Rattle.interrupt.specs.StepResult.{step_result};
 ghost use Rattle.definition.specs.Step.{alarmed, is_hlt, saved_for, executed, ordinary, performed, step};
-ghost use Rattle.clock.specs.Upcoming.{clock_room, step_room, CanPass};
+ghost use Rattle.clock.specs.Upcoming.{clock_room, step_room};
+ghost use Rattle.clock.specs.Requests.{setting_with, CanPass};
 
 use act::instruction::{memory_after, registers_after};
 use answers::answer::Outcome;
-use clock::time::{device_word, set_alarm, wait};
-use definition::judge::Judged;
-use definition::state::{SavedContext, Stamp, State, Time};
-use interrupt::service::{StepResult, due_stamp, reset, resume, serve};
+use clock::time::{Requests, device_word, set_alarm};
+use definition::state::{SavedContext, State, Time};
+use interrupt::service::{due_stamp, reset, resume, serve};
 use isa::instruction::Instruction;
 use judge::causes::{is_reti, judge};
 use layout::sections::Layout;
+use storage::answered::Answered;
 use storage::registers::{read_register, zero_registers};
 
 // OUT sets the alarm after its cycles.
@@ -22,17 +22,8 @@ fn alarmed_time(registers: [u16; 16], i: Instruction, t: Time) -> Time
     ensures { t.clock ≤ clock_room → result ≡ alarmed registers i t }
 {
     match i {
-        Instruction::Hlt => t,
-        Instruction::In(_) => t,
         Instruction::Out(s) => set_alarm(t, read_register(registers, s)),
-        Instruction::Jz(_) => t,
-        Instruction::Reti => t,
-        Instruction::Nop => t,
-        Instruction::Jmp(_) => t,
-        Instruction::Mov(_, _) => t,
-        Instruction::Store(_, _) => t,
-        Instruction::Compute(_, _, _) => t,
-        Instruction::Not(_) => t,
+        _ => t,
     }
 }
 
@@ -40,69 +31,41 @@ fn alarmed_time(registers: [u16; 16], i: Instruction, t: Time) -> Time
 fn is_hlt(i: Instruction) -> bool
     ensures { result ≡ is_hlt i }
 {
-    match i {
-        Instruction::Hlt => true,
-        Instruction::In(_) => false,
-        Instruction::Out(_) => false,
-        Instruction::Jz(_) => false,
-        Instruction::Reti => false,
-        Instruction::Nop => false,
-        Instruction::Jmp(_) => false,
-        Instruction::Mov(_, _) => false,
-        Instruction::Store(_, _) => false,
-        Instruction::Compute(_, _, _) => false,
-        Instruction::Not(_) => false,
-    }
+    matches!(i, Instruction::Hlt)
 }
 
 // Where nothing is held, the saved copy is handed back zero.
-pub fn saved_for(context: SavedContext, saved: [u16; 16]) -> [u16; 16]
+pub fn saved_for(context: Option<SavedContext>, saved: [u16; 16]) -> [u16; 16]
     ensures { result ≡ saved_for context saved }
 {
     match context {
-        SavedContext::Unheld => zero_registers(),
-        SavedContext::Held {
-            previous: _,
-            age: _,
-        } => saved,
+        None => zero_registers(),
+        Some(_) => saved,
     }
 }
 
 // A visit is held.
-pub fn is_held(context: SavedContext) -> bool
+pub fn is_held(context: Option<SavedContext>) -> bool
     ensures { result ≡ is_held context }
 {
-    match context {
-        SavedContext::Unheld => false,
-        SavedContext::Held {
-            previous: _,
-            age: _,
-        } => true,
-    }
+    context.is_some()
 }
 
 // The machine after the instruction and its cycles; its address becomes the previous one.
-fn execute(
-    m: State,
-    mem: &[u8],
-    layout: Layout,
-    stamps: &[u64],
-    upcoming: usize,
-    i: Instruction,
-) -> State
-    ensures { CanPass stamps.now m.time.clock upcoming 5 → result ≡ executed (setting_of layout stamps.now) m mem.now i }
+fn execute(m: State, mem: &[u8], layout: Layout, requests: Requests<'_>, i: Instruction) -> State
+    ensures { CanPass requests.entry m.time.clock 5 → result ≡ executed (setting_with layout requests.entry) m mem.now i }
 {
     let registers = m.registers;
     let saved = m.saved;
     let context = m.context;
     let time = m.time;
     let pc = read_register(registers, 0);
-    let after = wait(time, stamps, upcoming, i.cycles() as u64);
+    let after = requests.wait(time, i.cycles() as u64);
     State {
         registers: registers_after(layout.inside(pc), registers, device_word(time), mem, i),
         previous: pc,
         time: alarmed_time(registers, i, after),
-        context: context,
+        context,
         saved: saved_for(context, saved),
         halted: is_hlt(i),
     }
@@ -113,28 +76,27 @@ fn perform_ordinary(
     m: State,
     mem: &mut [u8],
     layout: Layout,
-    stamps: &[u64],
-    upcoming: usize,
+    requests: Requests<'_>,
     i: Instruction,
-) -> StepResult
-    ensures { CanPass stamps.now m.time.clock upcoming 17 → (result ≡ step_result (ordinary (setting_of layout stamps.now) m mem.old i)) × (mem.new ≡ (ordinary (setting_of layout stamps.now) m mem.old i).memory) }
+) -> Answered<State, Outcome>
+    ensures { CanPass requests.entry m.time.clock 17 → (result ≡ step_result (ordinary (setting_with layout requests.entry) m mem.old i)) × (mem.new ≡ (ordinary (setting_with layout requests.entry) m mem.old i).memory) }
 {
     let registers = m.registers;
-    let next = execute(m, mem, layout, stamps, upcoming, i);
+    let next = execute(m, mem, layout, requests, i);
     memory_after(registers, mem, i);
     if next.halted {
-        return StepResult {
-            state: next,
-            outcome: Outcome::Halted,
+        return Answered {
+            machine: next,
+            answer: Outcome::Halted,
         };
     }
     let inside = layout.inside(read_register(registers, 0));
     match due_stamp(next) {
-        Stamp::Never => StepResult {
-            state: next,
-            outcome: Outcome::Ran,
+        None => Answered {
+            machine: next,
+            answer: Outcome::Ran,
         },
-        Stamp::At(stamp) => serve(next, mem, layout, stamps, upcoming, inside, stamp),
+        Some(stamp) => serve(next, mem, layout, requests, inside, stamp),
     }
 }
 
@@ -143,23 +105,22 @@ fn perform(
     m: State,
     mem: &mut [u8],
     layout: Layout,
-    stamps: &[u64],
-    upcoming: usize,
+    requests: Requests<'_>,
     i: Instruction,
-) -> StepResult
-    ensures { CanPass stamps.now m.time.clock upcoming step_room → (result ≡ step_result (performed (setting_of layout stamps.now) m mem.old m.context i)) × (mem.new ≡ (performed (setting_of layout stamps.now) m mem.old m.context i).memory) }
+) -> Answered<State, Outcome>
+    ensures { CanPass requests.entry m.time.clock step_room → (result ≡ step_result (performed (setting_with layout requests.entry) m mem.old m.context i)) × (mem.new ≡ (performed (setting_with layout requests.entry) m mem.old m.context i).memory) }
 {
     let saved = m.saved;
     let context = m.context;
     let time = m.time;
     match context {
-        SavedContext::Unheld => perform_ordinary(m, mem, layout, stamps, upcoming, i),
-        SavedContext::Held { previous, age } => {
+        None => perform_ordinary(m, mem, layout, requests, i),
+        Some(visit) => {
             if is_reti(i) {
-                let after = wait(time, stamps, upcoming, i.cycles() as u64);
-                return resume(after, previous, age, saved, layout, stamps, upcoming);
+                let after = requests.wait(time, i.cycles() as u64);
+                return resume(after, visit, saved, layout, requests);
             }
-            perform_ordinary(m, mem, layout, stamps, upcoming, i)
+            perform_ordinary(m, mem, layout, requests, i)
         }
     }
 }
@@ -169,21 +130,20 @@ pub fn take_step(
     m: State,
     mem: &mut [u8],
     layout: Layout,
-    stamps: &[u64],
-    upcoming: usize,
-) -> StepResult
-    ensures { CanPass stamps.now m.time.clock upcoming step_room → (result ≡ step_result (step (setting_of layout stamps.now) m mem.old)) × (mem.new ≡ (step (setting_of layout stamps.now) m mem.old).memory) }
+    requests: Requests<'_>,
+) -> Answered<State, Outcome>
+    ensures { CanPass requests.entry m.time.clock step_room → (result ≡ step_result (step (setting_with layout requests.entry) m mem.old)) × (mem.new ≡ (step (setting_with layout requests.entry) m mem.old).memory) }
 {
     if m.halted {
-        return StepResult {
-            state: m,
-            outcome: Outcome::Halted,
+        return Answered {
+            machine: m,
+            answer: Outcome::Halted,
         };
     }
     let registers = m.registers;
     let context = m.context;
     match judge(layout, is_held(context), registers, mem, m.previous) {
-        Judged::Faulty(cause) => reset(m, mem, stamps, upcoming, cause),
-        Judged::Acts(i) => perform(m, mem, layout, stamps, upcoming, i),
+        Err(cause) => reset(m, mem, requests, cause),
+        Ok(i) => perform(m, mem, layout, requests, i),
     }
 }

@@ -17,7 +17,7 @@ overflow_add-time c = let r = c.loop-steps.invariant.room in omega arith
 pub overflow_add-time-in-loop-steps : goal.overflow_add-time-in-loop-steps
 overflow_add-time-in-loop-steps c =
     let r = c.loop-steps.invariant.room in
-    let g = (effect_few _ true (fast_state c.loop-steps.registers c.loop-steps.last c.loop-steps.time c.loop-steps.mem) _ _ (sym c.fast_effect.ensures ∙ c.in-Fast.is)).1 in
+    let g = (effect_few _ true (fast_state c.loop-steps.registers c.loop-steps.last c.loop-steps.time c.loop-steps.mem) _ _ (sym c.fast_effect.ensures ∙ c.in-Some.is)).1 in
     omega arith
 
 pub overflow_add-steps : goal.overflow_add-steps
@@ -32,7 +32,7 @@ loop-steps-smaller c =
 
 pub loop-steps-preserved : goal.loop-steps-preserved
 loop-steps-preserved c =
-    fast_loop_next _ _ _ _ _ _ _ c.loop-steps.invariant c.loop-steps-test.true c.if-until-time.false (holds c.may_fetch.ensures c.if-not-may_fetch.false) _ c.word_at-w.ensures _ (sym c.fast_effect.ensures ∙ c.in-Fast.is) c.requires.room.1 _ c.put_if.ensures
+    fast_loop_next _ _ _ _ _ _ _ c.loop-steps.invariant c.loop-steps-test.true c.if-until-time.false (holds c.may_fetch.ensures c.if-not-may_fetch.false) _ c.word_at-w.ensures _ (sym c.fast_effect.ensures ∙ c.in-Some.is) c.requires.room.1 _ c.put_if.ensures
 
 pub shape_of-mem-after-loop-steps : goal.shape_of-mem-after-loop-steps
 shape_of-mem-after-loop-steps c = c.loop-steps.invariant.size ∙ sym c.requires.size

@@ -1,4 +1,4 @@
-use mathlib.Core.Path.{sym}
+use Rattle.std.proofs.Common.{sym}
 use Rattle.base.specs.Test.{when◌then◌else◌}
 use Rattle.definition.specs.Interrupt.{due}
 use Rattle.interrupt.proofs.service.due_stamp.Goals as goal

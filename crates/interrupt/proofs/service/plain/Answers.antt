@@ -1,18 +1,23 @@
-use native.Mathlib.Omega.{arith}
-use Rattle.base.specs.Test.{when◌then◌else◌}
-use Rattle.base.proofs.Tests.{fails, holds}
+use Rattle.std.proofs.Common.{◌≡◌, ◌∙◌, [], ◌∷◌, arith}
+use Rattle.base.specs.Test.{when◌then◌else◌, all}
+use Rattle.base.proofs.Tests.{and_stop, and_then, and_last, fails, holds}
+use Rattle.layout.specs.Sections.{outside}
 use Rattle.definition.specs.Time.{emptied}
 use Rattle.definition.specs.Interrupt.{reset, plain}
 use Rattle.clock.proofs.UpcomingLaws.{can_pass_later}
 use Rattle.interrupt.proofs.service.plain.Goals as goal
+use Rattle.interrupt.proofs.service.plain.Goals.{then-outside, else-outside}
 
-pub returns-then-not-both : goal.returns-then-not-both
+pub returns-then-not-outside : goal.returns-then-not-outside
 unfolding plain reset when◌then◌else◌
-returns-then-not-both c = λ h.
-    let t = fails c.both.ensures c.if-not-both.true in
+returns-then-not-outside c = λ h.
+    let both : c.if-outside.value ≡ all (outside c.args.layout c.difference-high.result ∷ outside c.args.layout c.difference-low.result ∷ []) =
+    elim c.if-outside.branch [
+      | then-outside w ↦ and_then _ c.outside.ensures w.if-outside.true (w.value-is ∙ and_last w.outside-then-outside.ensures)
+      | else-outside w ↦ w.value-is ∙ and_stop _ c.outside.ensures w.if-outside.false
+    ] in
+    let t = fails both c.if-not-outside.true in
     let u = simp (
-      c.outside-2.ensures,
-      c.outside.ensures,
       c.difference-low.ensures,
       c.read_register-2.ensures,
       c.difference-high.ensures,
@@ -23,10 +28,13 @@ returns-then-not-both c = λ h.
 pub returns : goal.returns
 unfolding plain when◌then◌else◌ emptied
 returns c = λ h.
-    let t = holds c.both.ensures c.if-not-both.false in
+    let both : c.if-outside.value ≡ all (outside c.args.layout c.difference-high.result ∷ outside c.args.layout c.difference-low.result ∷ []) =
+    elim c.if-outside.branch [
+      | then-outside w ↦ and_then _ c.outside.ensures w.if-outside.true (w.value-is ∙ and_last w.outside-then-outside.ensures)
+      | else-outside w ↦ w.value-is ∙ and_stop _ c.outside.ensures w.if-outside.false
+    ] in
+    let t = holds both c.if-not-outside.false in
     let u = simp (
-      c.outside-2.ensures,
-      c.outside.ensures,
       c.difference-low.ensures,
       c.read_register-2.ensures,
       c.difference-high.ensures,

@@ -1,5 +1,5 @@
 use Rattle.definition.specs.Interrupt.{padded, interrupted}
-use native.Mathlib.Omega.{arith}
+use Rattle.std.proofs.Common.{arith}
 use Rattle.clock.proofs.UpcomingLaws.{can_pass_later}
 use Rattle.interrupt.proofs.service.serve.Goals as goal
 

@@ -1,5 +1,5 @@
-use Rattle.definition.specs.Setting.{setting_of}
-use native.Mathlib.Omega.{arith}
+use Rattle.clock.specs.Requests.{setting_with}
+use Rattle.std.proofs.Common.{arith}
 use Rattle.definition.specs.Time.{pass}
 use Rattle.definition.specs.Step.{executed}
 use Rattle.definition.proofs.instruction.InstructionLaws.{cycles_range}
@@ -20,7 +20,7 @@ returns c = λ h.
       c.saved_for.ensures,
       t,
       c.registers_after.ensures,
-      c.device_word.ensures (setting_of a.layout a.stamps.now),
+      c.device_word.ensures (setting_with a.layout a.requests),
       c.inside.ensures,
       w,
       c.cycles.ensures,

@@ -1,5 +1,4 @@
-use mathlib.Core.Path.{sym, ◌∙◌}
-use native.Mathlib.Omega.{arith}
+use Rattle.std.proofs.Common.{sym, ◌∙◌, arith}
 use Rattle.definition.specs.Time.{pass}
 use Rattle.definition.proofs.instruction.InstructionLaws.{cycles_range}
 use Rattle.clock.proofs.UpcomingLaws.{can_pass_later}
@@ -16,15 +15,15 @@ returns-then-is_reti c = λ h.
     let r = rw (w, n) at (c.resume.ensures (rw (w, n) (can_pass_later h _ _ (omega arith) (omega arith)))) in
     let g = return_yields _ _ _ _ _ _ _ in
     yields
-    (performed_returns _ _ _ _ _ _ _ c.in-Held.is (sym c.is_reti.ensures ∙ c.if-is_reti.true))
+    (performed_returns _ _ _ _ _ _ _ c.in-Some.is (sym c.is_reti.ensures ∙ c.if-is_reti.true))
     (r ∙ g.0, g.1)
 
-pub returns-in-Unheld : goal.returns-in-Unheld
-returns-in-Unheld c = λ h.
-    yields (performed_unheld _ _ _ _ _ c.in-Unheld.is) (c.perform_ordinary.ensures (can_pass_later h _ _ (omega arith) (omega arith)))
+pub returns-in-None : goal.returns-in-None
+returns-in-None c = λ h.
+    yields (performed_unheld _ _ _ _ _ c.in-None.is) (c.perform_ordinary.ensures (can_pass_later h _ _ (omega arith) (omega arith)))
 
 pub returns-else-is_reti : goal.returns-else-is_reti
 returns-else-is_reti c = λ h.
     yields
-    (performed_other _ _ _ _ _ _ _ c.in-Held.is (sym c.is_reti.ensures ∙ c.if-is_reti.false))
-    (c.perform_ordinary-in-Held.ensures (can_pass_later h _ _ (omega arith) (omega arith)))
+    (performed_other _ _ _ _ _ _ _ c.in-Some.is (sym c.is_reti.ensures ∙ c.if-is_reti.false))
+    (c.perform_ordinary-in-Some.ensures (can_pass_later h _ _ (omega arith) (omega arith)))
