@@ -1,12 +1,8 @@
 -- An opened sheet, refused and read. Assumes nothing.
-use Prim.Native.Nat.{ℕ, ◌+◌, ◌-◌, ◌≤◌}
-use mathlib.Core.Bool.{true}
-use mathlib.Core.Path.{◌≡◌, refl, sym, ◌∙◌, ap}
-use mathlib.Core.List.{List, ◌++◌}
-use native.Mathlib.Omega.{arith}
-use lib.ListN.{length, take, drop}
-use lib.Seq.{sets, sets-eq, length-sets, take_at}
-use borrow.Author.Tests.{eq-eqb, leb-true, le-leb}
+use Rattle.std.proofs.Common.{ℕ, ◌+◌, ◌-◌, ◌≤◌, ◌≡◌, ◌∙◌, refl, sym, ap, true, List, ◌++◌, Result, Ok, Err, length, take, drop, arith}
+use Rattle.std.proofs.lemmas.List.Edits.{sets}
+use Rattle.std.proofs.Math.Seq.{sets-eq, length-sets, take_at}
+use Rattle.std.proofs.Common.{eq-eqb, leb-true, le-leb}
 use Rattle.base.specs.declared.refusal.Refusal.{Refusal}
 use Rattle.base.specs.Limits.{memory_bytes, most_stamps}
 use Rattle.base.proofs.Tests.{each, when_true}
@@ -16,12 +12,10 @@ use Rattle.definition.specs.declared.state.State.{State}
 use Rattle.definition.specs.State.{world, start}
 use Rattle.base.specs.Verdict.{verdict}
 use Rattle.definition.specs.Calls.{timetable, transcript_tests, whole_memory, Called, called, start_answered, start_call}
-use Rattle.answers.specs.declared.answer.StartAnswer.{StartAnswer}
 use Rattle.base.specs.FirstFailure.{first_failure}
-use Rattle.base.specs.declared.verdict.Verdict.{Verdict}
 use Rattle.definition.proofs.frame.FrameLaws.{ready_at_start}
 use Rattle.sheet.specs.declared.reader.Setup.{Setup}
-use Rattle.sheet.specs.declared.reader.Answer.TheVariants.{Read, Refused}
+use Rattle.sheet.specs.declared.reader.SheetRefusal.{SheetRefusal}
 use Rattle.loader.specs.Setup.{sheet_memory, sheet_stamps}
 use Rattle.sheet.specs.Sheet.{sheet_answer}
 use Rattle.sheet.specs.Laws.{ReadIsRunnable}
@@ -40,21 +34,21 @@ abbrev pub before : State → ℕ → Transcript
 before m budget = record { state = m; steps = 0; budget = budget; remaining = Header }
 
 -- the start state, where memory is whole
-pub started : (mem : List ℕ) (m : State) (answer : StartAnswer) → called m mem answer ≡ start_call mem → whole_memory mem ≡ true → m ≡ start mem
+pub started : (mem : List ℕ) (m : State) (answer : Result (Unit {0}) Refusal) → called m mem answer ≡ start_call mem → whole_memory mem ≡ true → m ≡ start mem
 unfolding start_call first_failure
 started mem m answer e h =
-    ap (λ (c : Called StartAnswer). c.state) e ∙ ap (λ (v : Verdict). (start_answered mem v).state) (when_true _ _ _ h)
+    ap (λ (c : Called (Result (Unit {0}) Refusal)). c.state) e ∙ ap (λ (v : Result (Unit {0}) Refusal). (start_answered mem v).state) (when_true _ _ _ h)
 
 module _ (sheet mem stamps : List ℕ) where
-  pub opened_refused : (r : Refusal) (line : ℕ) → Refused r line ≡ sheet_answer sheet → length mem ≡ memory_bytes → (L : Layout) → L ≡ no_layout → (m : State) → m ≡ start mem
+  pub opened_refused : (r : SheetRefusal) → Err r ≡ sheet_answer sheet → length mem ≡ memory_bytes → (L : Layout) → L ≡ no_layout → (m : State) → m ≡ start mem
       → OpenPromise sheet mem stamps
-      (record { layout = L; count = 0; transcript = record { state = m; steps = 0; budget = 0; remaining = RefusalLine r line } }) mem stamps
+      (record { layout = L; count = 0; transcript = record { state = m; steps = 0; budget = 0; remaining = RefusalLine r.refusal r.line } }) mem stamps
   unfolding sheet_output
-  opened_refused r line e l L p m q =
+  opened_refused r e l L p m q =
       record {
         result =
-            ap (λ (z : Layout). record { layout = z; count = 0; transcript = record { state = m; steps = 0; budget = 0; remaining = RefusalLine r line } }) p
-            ∙ ap (λ (z : State). record { layout = no_layout; count = 0; transcript = record { state = z; steps = 0; budget = 0; remaining = RefusalLine r line } }) q
+            ap (λ (z : Layout). record { layout = z; count = 0; transcript = record { state = m; steps = 0; budget = 0; remaining = RefusalLine r.refusal r.line } }) p
+            ∙ ap (λ (z : State). record { layout = no_layout; count = 0; transcript = record { state = z; steps = 0; budget = 0; remaining = RefusalLine r.refusal r.line } }) q
             ∙ ap (opened_run sheet mem) e;
         size = sym l;
         fits = omega arith;
@@ -70,7 +64,7 @@ module _ (sheet mem stamps : List ℕ) where
       let j : 0 + length vs ≤ length stamps = omega arith in
       ap (take (length vs)) (sets-eq vs stamps 0 j) ∙ take_at vs (drop (0 + length vs) stamps) (length vs) refl
 
-  module _ (setup : Setup) (e : Read setup ≡ sheet_answer sheet) (mem_then stamps_then : List ℕ) (f : mem_then ≡ sheet_memory sheet)
+  module _ (setup : Setup) (e : Ok setup ≡ sheet_answer sheet) (mem_then stamps_then : List ℕ) (f : mem_then ≡ sheet_memory sheet)
       (g : stamps_then ≡ sets stamps 0 (sheet_stamps sheet)) (l : length mem_then ≡ memory_bytes) (k : length stamps ≡ most_stamps) where
     few : setup.stamps ≤ most_stamps
     unfolding ReadIsRunnable timetable

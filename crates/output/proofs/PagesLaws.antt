@@ -1,16 +1,9 @@
 -- Pages one after another make the whole. Assumes nothing.
-use Prim.Native.Nat.{ℕ, zero, suc, ◌+◌, ◌-◌, ◌≤◌}
-use mathlib.Core.Bool.{true}
-use mathlib.Core.Path.{◌≡◌, refl, sym, ◌∙◌, ap}
-use mathlib.Core.List.{List, [], ◌∷◌, ◌++◌}
-use native.Mathlib.Omega.{arith}
-use lib.Dec.{leb}
-use lib.ListN.{length}
+use Rattle.base.specs.declared.refusal.Refusal.{Refusal}
+use Rattle.std.proofs.Common.{ℕ, zero, suc, ◌+◌, ◌-◌, ◌≤◌, true, ◌≡◌, refl, sym, ◌∙◌, ap, List, [], ◌∷◌, ◌++◌, arith, leb, length, Result}
 use Rattle.base.specs.Limits.{most_budget}
 use Rattle.base.specs.FirstFailure.{first_failure}
-use Rattle.base.specs.declared.verdict.Verdict.{Verdict}
-use Rattle.base.specs.declared.verdict.Verdict.TheVariants.{Taken}
-use Rattle.base.specs.Verdict.{verdict}
+use Rattle.base.specs.Verdict.{verdict, unrefused}
 use Rattle.base.proofs.Tests.{when_true}
 use Rattle.definition.specs.Setting.{Setting}
 use Rattle.definition.specs.State.{World}
@@ -43,19 +36,19 @@ module _ (S : Setting) where
       ready_step n k w r (ready_run (n + 1) k (world_after (step_of S w))) (ending w.state) refl
 
   -- the tests of a transcript, apart and together
-  tests_apart : (budget : ℕ) (w : World) → verdict (transcript_tests S budget w) ≡ Taken → ReadyToRun S w × (leb budget most_budget ≡ true)
+  tests_apart : (budget : ℕ) (w : World) → verdict (transcript_tests S budget w) ≡ unrefused → ReadyToRun S w × (leb budget most_budget ≡ true)
   tests_apart budget w e =
       let h = all_hold (transcript_tests S budget w) e in
       (record { memory = h.0; layout = h.1.0; timetable = h.1.1.0; frame = h.1.1.1.0 }, h.1.1.1.1.0)
 
-  pub tests_together : (budget : ℕ) (w : World) → ReadyToRun S w → leb budget most_budget ≡ true → verdict (transcript_tests S budget w) ≡ Taken
+  pub tests_together : (budget : ℕ) (w : World) → ReadyToRun S w → leb budget most_budget ≡ true → verdict (transcript_tests S budget w) ≡ unrefused
   unfolding first_failure
   tests_together budget w s b =
       rw (when_true _ _ _ s.memory, when_true _ _ _ s.layout, when_true _ _ _ s.timetable, when_true _ _ _ s.frame, when_true _ _ _ b) (when_true _ _ _ refl)
 
   -- where the machine is ready, whatever remains is taken
   taken_ready : (t : Transcript) (mem : List ℕ) → ReadyToRun S (world_of t mem) → leb t.budget most_budget ≡ true → (remaining : Remaining)
-      → verdict (fill_tests S t mem remaining) ≡ Taken
+      → verdict (fill_tests S t mem remaining) ≡ unrefused
   unfolding first_failure
   taken_ready t mem r b (RefusalLine x line) = refl
   taken_ready t mem r b Header = tests_together t.budget (world_of t mem) r b
@@ -64,7 +57,7 @@ module _ (S : Setting) where
 
   -- where no line remains nothing is tested, and nothing is to be written
   no_lines : (t : Transcript) (mem : List ℕ) (left : ℕ) (remaining : Remaining) → lines_left left remaining ≤ 0
-      → verdict (fill_tests S t mem remaining) ≡ Taken
+      → verdict (fill_tests S t mem remaining) ≡ unrefused
   unfolding first_failure
   no_lines t mem left (RefusalLine x line) i = absurd (omega arith)
   no_lines t mem left Header i = absurd (omega arith)
@@ -80,16 +73,16 @@ module _ (S : Setting) where
   module _ (t : Transcript) (mem : List ℕ) (room : ℕ) (i : line_room ≤ room) (p : Page) where
     -- a transcript that is taken is taken again after a page
     ready_after : (remaining : Remaining) → PageIs S room t.steps (t.budget - t.steps) (world_of t mem) remaining p
-        → verdict (transcript_tests S t.budget (world_of t mem)) ≡ Taken
-        → verdict (fill_tests S (transcript_after t p) p.world.memory p.remaining) ≡ Taken
+        → verdict (transcript_tests S t.budget (world_of t mem)) ≡ unrefused
+        → verdict (fill_tests S (transcript_after t p) p.world.memory p.remaining) ≡ unrefused
     ready_after remaining q e =
         let s = tests_apart t.budget (world_of t mem) e in
         let r : ReadyToRun S p.world = rw q.stands (ready_run t.steps q.made (world_of t mem) s.0) in
         taken_ready (transcript_after t p) p.world.memory r s.1 p.remaining
 
     taken_after : (remaining : Remaining) → PageIs S room t.steps (t.budget - t.steps) (world_of t mem) remaining p
-        → verdict (fill_tests S t mem remaining) ≡ Taken
-        → verdict (fill_tests S (transcript_after t p) p.world.memory p.remaining) ≡ Taken
+        → verdict (fill_tests S t mem remaining) ≡ unrefused
+        → verdict (fill_tests S (transcript_after t p) p.world.memory p.remaining) ≡ unrefused
     taken_after (RefusalLine x line) q e =
         let f = q.fewer i (omega arith) in
         no_lines (transcript_after t p) p.world.memory q.rest p.remaining (omega arith)
@@ -110,14 +103,14 @@ module _ (S : Setting) where
         go (suc x) e = rw (← left) (let f = q.fewer i (omega arith) in omega arith)
 
   -- pages one after another
-  pages_whole : (rooms : List ℕ) (t : Transcript) (mem : List ℕ) → verdict (fill_tests S t mem t.remaining) ≡ Taken → Roomy rooms
+  pages_whole : (rooms : List ℕ) (t : Transcript) (mem : List ℕ) → verdict (fill_tests S t mem t.remaining) ≡ unrefused → Roomy rooms
       → lines_left (t.budget - t.steps) t.remaining ≤ length rooms → pages_text S rooms t mem ≡ text_left S t mem
   unfolding pages_text
   pages_whole [] t mem e none i = no_text t.steps (t.budget - t.steps) (world_of t mem) t.remaining i
   pages_whole (room ∷ rooms) t mem e (more _ _ k r) i =
       let p = page_of S room t.steps (t.budget - t.steps) (world_of t mem) t.remaining in
       let q = page_of_is S room t.steps (t.budget - t.steps) (world_of t mem) t.remaining in
-      ap (λ (z : Verdict). (page_by S room t mem z).text ++ pages_text S rooms (transcript_after t (page_by S room t mem z)) (page_by S room t mem z).world.memory) e
+      ap (λ (z : Result (Unit {0}) Refusal). (page_by S room t mem z).text ++ pages_text S rooms (transcript_after t (page_by S room t mem z)) (page_by S room t mem z).world.memory) e
       ∙ ap (λ (z : List ℕ). p.text ++ z)
       (pages_whole rooms (transcript_after t p) p.world.memory (taken_after t mem room k p t.remaining q e) r
       (fewer_after t mem room k p t.remaining q (length rooms) i))

@@ -1,7 +1,6 @@
 -- What holds of pages written one after another: the statements of the laws.
 use Rattle.std.specs.Prelude.{ℕ, ◌-◌, ◌≤◌, ◌≡◌, List, [], ◌∷◌, ◌++◌, length}
-use Rattle.base.specs.declared.verdict.Verdict.TheVariants.{Taken}
-use Rattle.base.specs.Verdict.{verdict}
+use Rattle.base.specs.Verdict.{verdict, unrefused}
 use Rattle.definition.specs.Setting.{Setting}
 use Rattle.transcribe.specs.declared.progress.Transcript.{Transcript}
 use Rattle.steplines.specs.Page.{line_room}
@@ -25,7 +24,7 @@ pub data Roomy : List ℕ → Type 0 where
 -- pages of any size of at least one line make the whole text, after at most as many calls as there are lines
 unfoldable pub PagesMakeWhole : Type 0
 PagesMakeWhole =
-    (S : Setting) (t : Transcript) (mem rooms : List ℕ) → verdict (fill_tests S t mem t.remaining) ≡ Taken → Roomy rooms
+    (S : Setting) (t : Transcript) (mem rooms : List ℕ) → verdict (fill_tests S t mem t.remaining) ≡ unrefused → Roomy rooms
     → lines_left (t.budget - t.steps) t.remaining ≤ length rooms → pages_text S rooms t mem ≡ text_left S t mem
 
 -- and so, of an opened sheet, all that it leads to

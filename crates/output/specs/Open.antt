@@ -1,16 +1,13 @@
 -- A sheet's run before its first line.
-use Rattle.std.specs.Prelude.{ℕ, ◌≤◌, ◌≡◌, List, length, take}
+use Rattle.std.specs.Prelude.{ℕ, ◌≤◌, ◌≡◌, List, Ok, Err, length, take}
 use Rattle.std.proofs.lemmas.List.Edits.{sets}
 use Rattle.base.specs.Limits.{memory_bytes}
-use Rattle.base.specs.declared.verdict.Verdict.TheVariants.{Taken}
-use Rattle.base.specs.Verdict.{verdict}
+use Rattle.base.specs.Verdict.{verdict, unrefused}
 use Rattle.layout.specs.declared.sections.Layout.{Layout}
 use Rattle.definition.specs.Setting.{Setting, setting_of}
 use Rattle.definition.specs.State.{start}
-use Rattle.sheet.specs.declared.reader.Answer.{Answer}
-use Rattle.sheet.specs.declared.reader.Answer.TheVariants.{Read, Refused}
 use Rattle.loader.specs.Setup.{sheet_memory, sheet_stamps}
-use Rattle.sheet.specs.Sheet.{sheet_answer}
+use Rattle.sheet.specs.Sheet.{Answer, sheet_answer}
 use Rattle.steplines.specs.declared.remaining.Remaining.{Remaining}
 use Rattle.steplines.specs.declared.remaining.Remaining.TheVariants.{RefusalLine, Header}
 use Rattle.transcribe.specs.declared.progress.Transcript.{Transcript}
@@ -20,13 +17,13 @@ use Rattle.output.specs.Output.{sheet_output}
 
 -- the memory that opening leaves: a refusal leaves it as it came
 abbrev pub opened_memory : List ℕ → List ℕ → Answer → List ℕ
-opened_memory sheet mem (Read setup) = sheet_memory sheet
-opened_memory sheet mem (Refused r line) = mem
+opened_memory sheet mem (Ok setup) = sheet_memory sheet
+opened_memory sheet mem (Err r) = mem
 
 -- and the stamps
 abbrev pub opened_stamps : List ℕ → List ℕ → Answer → List ℕ
-opened_stamps sheet stamps (Read setup) = sets stamps 0 (sheet_stamps sheet)
-opened_stamps sheet stamps (Refused r line) = stamps
+opened_stamps sheet stamps (Ok setup) = sets stamps 0 (sheet_stamps sheet)
+opened_stamps sheet stamps (Err r) = stamps
 
 -- no layout at all
 abbrev pub no_layout : Layout
@@ -38,9 +35,9 @@ unwritten mem budget remaining = record { state = start mem; steps = 0; budget =
 
 -- what opening answers: of a sheet that is read its layout, the number of its stamps and its transcript; else the refusal's line alone
 abbrev pub opened_run : List ℕ → List ℕ → Answer → SheetRun
-opened_run sheet mem (Read setup) =
+opened_run sheet mem (Ok setup) =
     record { layout = setup.layout; count = setup.stamps; transcript = unwritten (sheet_memory sheet) setup.budget Header }
-opened_run sheet mem (Refused r line) = record { layout = no_layout; count = 0; transcript = unwritten mem 0 (RefusalLine r line) }
+opened_run sheet mem (Err r) = record { layout = no_layout; count = 0; transcript = unwritten mem 0 (RefusalLine r.refusal r.line) }
 
 -- the setting of an opened sheet: its layout, and as many of the stamps as are its own
 abbrev pub setting_opened : SheetRun → List ℕ → Setting
@@ -53,6 +50,6 @@ pub record OpenPromise (sheet mem stamps : List ℕ) (r : SheetRun) (mem_then st
   pub size : memory_bytes ≡ length mem_then
   pub fits : r.count ≤ length stamps_then
   pub output : text_left (setting_opened r stamps_then) r.transcript mem_then ≡ sheet_output sheet
-  pub taken : verdict (fill_tests (setting_opened r stamps_then) r.transcript mem_then r.transcript.remaining) ≡ Taken
+  pub taken : verdict (fill_tests (setting_opened r stamps_then) r.transcript mem_then r.transcript.remaining) ≡ unrefused
   pub memory_loaded : mem_then ≡ opened_memory sheet mem (sheet_answer sheet)
   pub stamps_loaded : stamps_then ≡ opened_stamps sheet stamps (sheet_answer sheet)

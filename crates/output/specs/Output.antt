@@ -1,18 +1,16 @@
 -- What a sheet leads to: every byte that the bench writes.
-use Rattle.std.specs.Prelude.{ℕ, List, ◌++◌}
+use Rattle.std.specs.Prelude.{ℕ, List, Ok, Err, ◌++◌}
 use Rattle.definition.specs.Setting.{setting_of}
 use Rattle.definition.specs.State.{world, start}
-use Rattle.sheet.specs.declared.reader.Answer.{Answer}
-use Rattle.sheet.specs.declared.reader.Answer.TheVariants.{Read, Refused}
 use Rattle.loader.specs.Setup.{sheet_memory, sheet_stamps}
-use Rattle.sheet.specs.Sheet.{sheet_answer}
+use Rattle.sheet.specs.Sheet.{Answer, sheet_answer}
 use Rattle.transcript.specs.Transcript.{header_line, refusal_line}
 use Rattle.transcribe.specs.Transcribe.{steps_text}
 
 -- the refusal's line; or the header, a line for each step, the end's line
 abbrev pub output_of : List ℕ → Answer → List ℕ
-output_of sheet (Refused r line) = refusal_line r line
-output_of sheet (Read setup) =
+output_of sheet (Err r) = refusal_line r.refusal r.line
+output_of sheet (Ok setup) =
     header_line
     ++ steps_text (setting_of setup.layout (sheet_stamps sheet)) 0 setup.budget (world (start (sheet_memory sheet)) (sheet_memory sheet))
 

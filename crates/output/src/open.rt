@@ -8,7 +8,7 @@ use base::limits::{MEMORY_BYTES, MOST_STAMPS};
 use layout::sections::{Layout, Span};
 use loader::load::{load_memory, load_stamps};
 use machine::calls::Machine;
-use sheet::reader::{Answer, read_sheet};
+use sheet::reader::read_sheet;
 use steplines::remaining::Remaining;
 use transcribe::progress::Transcript;
 
@@ -38,10 +38,10 @@ fn unwritten(mem: &[u8], budget: u64, remaining: Remaining) -> Transcript
     let started = Machine::start(mem);
     let state = started.machine.0;
     Transcript {
-        state: state,
+        state,
         steps: 0,
-        budget: budget,
-        remaining: remaining,
+        budget,
+        remaining,
     }
 }
 
@@ -54,17 +54,21 @@ pub fn open_sheet(
     ensures { OpenPromise text.now mem.old stamps.old result mem.new stamps.new }
 {
     match read_sheet(text) {
-        Answer::Refused(refusal, line) => SheetRun {
+        Err(refused) => SheetRun {
             layout: no_layout(),
             count: 0,
-            transcript: unwritten(mem, 0, Remaining::RefusalLine(refusal, line)),
+            transcript: unwritten(
+                mem,
+                0,
+                Remaining::RefusalLine(refused.refusal, refused.line),
+            ),
         },
-        Answer::Read(setup) => {
+        Ok(setup) => {
             load_memory(mem, text);
             load_stamps(stamps, text);
             let layout = setup.layout;
             SheetRun {
-                layout: layout,
+                layout,
                 count: setup.stamps as usize,
                 transcript: unwritten(mem, setup.budget, Remaining::Header),
             }

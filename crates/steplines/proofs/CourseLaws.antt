@@ -1,37 +1,33 @@
 -- Whether a run goes on, by the tests of the code and by the definition. Assumes nothing.
-use Prim.Native.Nat.{ℕ, ◌≤◌, ◌<◌}
-use mathlib.Core.Bool.{Bool, true, false, true≢false}
-use mathlib.Core.Path.{◌≡◌, refl, sym, ◌∙◌, ap}
-use lib.Dec.{leb, ltb}
-use borrow.Author.Tests.{lt-ltb, le-ltb, le-leb, lt-leb, ltb-false, leb-false}
+use Rattle.std.proofs.Common.{ℕ, ◌≤◌, ◌<◌, Bool, true, false, true≢false, ◌≡◌, refl, sym, ◌∙◌, ap, leb, ltb, lt-ltb, le-ltb, le-leb, ltb-false, leb-false, None, Some}
+use Rattle.std.proofs.lemmas.Bool.{lt-leb}
 use Rattle.base.specs.Test.{when◌then◌else◌}
 use Rattle.base.specs.Limits.{last_clock}
 use Rattle.base.proofs.Tests.{when_true, when_false}
 use Rattle.answers.specs.declared.answer.End.TheVariants.{Halted, Clock, Spent}
-use Rattle.steplines.specs.declared.steps.Course.TheVariants.{Goes, Stops}
 use Rattle.steplines.specs.internal.Course.{course, goes_on}
 
 -- the four ways through the tests
 module _ (halted : Bool) (clock steps budget : ℕ) where
-  pub course_halted : halted ≡ true → course halted clock steps budget ≡ Stops Halted
+  pub course_halted : halted ≡ true → course halted clock steps budget ≡ Some Halted
   unfolding course
   course_halted h = when_true _ _ _ h
 
-  pub course_clock : halted ≡ false → last_clock < clock → course halted clock steps budget ≡ Stops Clock
+  pub course_clock : halted ≡ false → last_clock < clock → course halted clock steps budget ≡ Some Clock
   unfolding course
   course_clock h k = when_false _ _ _ h ∙ when_true _ _ _ (lt-ltb _ _ k)
 
-  pub course_spent : halted ≡ false → clock ≤ last_clock → budget ≤ steps → course halted clock steps budget ≡ Stops Spent
+  pub course_spent : halted ≡ false → clock ≤ last_clock → budget ≤ steps → course halted clock steps budget ≡ Some Spent
   unfolding course
   course_spent h k l = when_false _ _ _ h ∙ when_false _ _ _ (le-ltb _ _ k) ∙ when_true _ _ _ (le-leb _ _ l)
 
-  pub course_goes : halted ≡ false → clock ≤ last_clock → steps < budget → course halted clock steps budget ≡ Goes
+  pub course_goes : halted ≡ false → clock ≤ last_clock → steps < budget → course halted clock steps budget ≡ None
   unfolding course
   course_goes h k l = when_false _ _ _ h ∙ when_false _ _ _ (le-ltb _ _ k) ∙ when_false _ _ _ (lt-leb _ _ l)
 
 -- what is known where it goes on
 going_tests : (h k l : Bool)
-    → goes_on (when h then Stops Halted else when k then Stops Clock else when l then Stops Spent else Goes) ≡ true
+    → goes_on (when h then Some Halted else when k then Some Clock else when l then Some Spent else None) ≡ true
     → (h ≡ false) × ((k ≡ false) × (l ≡ false))
 unfolding when◌then◌else◌
 going_tests true k l e = absurd (true≢false (sym e))
@@ -39,7 +35,7 @@ going_tests false true l e = absurd (true≢false (sym e))
 going_tests false false true e = absurd (true≢false (sym e))
 going_tests false false false e = (refl, (refl, refl))
 
-pub course_told : (halted : Bool) (clock steps budget : ℕ) → course halted clock steps budget ≡ Goes
+pub course_told : (halted : Bool) (clock steps budget : ℕ) → course halted clock steps budget ≡ None
     → (halted ≡ false) × ((clock ≤ last_clock) × (steps < budget))
 unfolding course
 course_told halted clock steps budget e =

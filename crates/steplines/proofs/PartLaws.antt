@@ -1,11 +1,7 @@
 -- A part of a buffer that was written is the buffer written there. Assumes nothing.
-use Prim.Native.Nat.{ℕ, ◌+◌, ◌-◌, ◌≤◌}
-use mathlib.Core.Path.{◌≡◌, sym, ◌∙◌, ap}
-use mathlib.Core.List.{List, ◌++◌, append_assoc}
-use native.Mathlib.Omega.{arith}
-use native.Mathlib.Nat.{zero-add}
-use lib.ListN.{length, take, drop, length-drop, take-append-drop}
-use lib.Seq.{sets, sets-eq, drop-append-le, drop-drop, length-take-le}
+use Rattle.std.proofs.Common.{ℕ, ◌+◌, ◌-◌, ◌≤◌, ◌≡◌, sym, ◌∙◌, ap, List, ◌++◌, append_assoc, arith, zero-add, length, take, drop, length-drop, take-append-drop, drop-drop, length-take-le}
+use Rattle.std.proofs.lemmas.List.Edits.{sets, sets-eq}
+use Rattle.std.proofs.lemmas.List.{drop-append-le}
 use borrow.Rule.Slice.PartMut.{mid_of, post_of, put_mid}
 
 module _ (a : ℕ) (xs vs : List ℕ) (h : a + length vs ≤ length xs) where

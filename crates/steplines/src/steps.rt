@@ -1,39 +1,33 @@
 // The lines of steps and of the end, as long as there is room for one.
-ghost use Rattle.std.specs.Prelude.{◌≡◌, true, ◌+◌, ◌-◌, ◌≤◌, length};
+ghost use Rattle.std.specs.Prelude.{◌≡◌, ◌+◌, ◌-◌, ◌≤◌, length};
 ghost use Rattle.std.proofs.lemmas.List.Edits.{sets};
 ghost use Rattle.definition.specs.Setting.{setting_of};
 ghost use Rattle.definition.specs.State.{world};
 ghost use Rattle.definition.specs.Interrupt.{gives};
 ghost use Rattle.definition.specs.Run.{step_of};
-ghost use Rattle.definition.specs.Calls.{timetable};
 ghost use Rattle.storage.specs.Control.{with_registers};
 ghost use Rattle.transcript.specs.Transcript.{step_line, end_line};
 ghost use Rattle.steplines.specs.Page.{line_room, page_from};
 ghost use Rattle.steplines.specs.internal.Course.{course};
 ghost use Rattle.steplines.specs.internal.Written.{PageWritten, LastLine, no_line};
 ghost use Rattle.base.specs.Limits.{last_clock};
-ghost use Rattle.clock.specs.Upcoming.{IsUpcoming};
+ghost use Rattle.clock.specs.Requests.{setting_with, AtClock};
 
 use crate::remaining::Remaining;
 use answers::answer::{End, Outcome};
 use base::limits::LAST_CLOCK;
-use clock::time::{find_upcoming, skip_passed};
+use clock::time::Requests;
+use clock::timetable::Timetable;
 use fast::steps::fast_steps;
-use inplace::in_place::{InPlaceStep, after_fast, fast_until, put_back};
+use inplace::in_place::{after_fast, fast_until, put_back};
 use layout::sections::Layout;
 use step::step::{is_held, take_step};
+use storage::answered::Answered;
 use storage::control::Control;
 use transcript::line::{end_line, step_line};
 
 // The room that a line is given: no line is longer.
 pub const LINE_ROOM: usize = 64;
-
-// A run goes on, or why it stops.
-#[derive(Clone, Copy)]
-pub enum Course {
-    Goes,
-    Stops(End),
-}
 
 // What the lines leave: what the machine has beside its registers, the steps made so far, how far the buffer is filled, what remains.
 #[derive(Clone, Copy)]
@@ -45,19 +39,19 @@ pub struct StepsWritten {
 }
 
 // Whether a run goes on: the ends in their order.
-fn course_of(halted: bool, clock: u64, steps: u64, budget: u64) -> Course
+fn course_of(halted: bool, clock: u64, steps: u64, budget: u64) -> Option<End>
     ensures { result ≡ course halted clock steps budget }
 {
     if halted {
-        return Course::Stops(End::Halted);
+        return Some(End::Halted);
     }
     if clock > LAST_CLOCK {
-        return Course::Stops(End::Clock);
+        return Some(End::Clock);
     }
     if steps >= budget {
-        return Course::Stops(End::Spent);
+        return Some(End::Spent);
     }
-    Course::Goes
+    None
 }
 
 // Puts a step's line behind what is filled.
@@ -93,9 +87,9 @@ fn no_line(control: Control, steps: u64, filled: usize) -> StepsWritten
     ensures { result ≡ no_line control steps filled }
 {
     StepsWritten {
-        control: control,
-        steps: steps,
-        filled: filled,
+        control,
+        steps,
+        filled,
         remaining: Remaining::Steps,
     }
 }
@@ -106,16 +100,16 @@ fn last_line(
     steps: u64,
     out: &mut [u8],
     filled: usize,
-    going: Course,
+    going: Option<End>,
 ) -> StepsWritten
     requires { filled + line_room ≤ length out.old }
     ensures { LastLine going control steps out.old out.new filled result }
 {
     match going {
-        Course::Goes => no_line(control, steps, filled),
-        Course::Stops(end) => StepsWritten {
-            control: control,
-            steps: steps,
+        None => no_line(control, steps, filled),
+        Some(end) => StepsWritten {
+            control,
+            steps,
             filled: put_end(out, filled, end, steps, control.time.clock),
             remaining: Remaining::Nothing,
         },
@@ -130,14 +124,13 @@ fn line_step(
     saved: &mut [u16; 16],
     mem: &mut [u8],
     layout: Layout,
-    stamps: &[u64],
-    upcoming: usize,
-) -> InPlaceStep
-    ensures { timetable stamps.now ≡ true → control.time.clock ≤ last_clock → IsUpcoming stamps.now control.time.clock upcoming → gives (with_registers registers.new saved.new result.control) mem.new result.outcome ≡ step_of (setting_of layout stamps.now) (world (with_registers registers.old saved.old control) mem.old) }
+    requests: Requests<'_>,
+) -> Answered<Control, Outcome>
+    ensures { control.time.clock ≤ last_clock → AtClock requests.entry control.time.clock → gives (with_registers registers.new saved.new result.machine) mem.new result.answer ≡ step_of (setting_with layout requests.entry) (world (with_registers registers.old saved.old control) mem.old) }
 {
     let context = control.context;
     let clock = control.time.clock;
-    let until = fast_until(control, registers[2], stamps, upcoming);
+    let until = fast_until(control, registers[2], requests);
     let burst = fast_steps(
         registers,
         control.previous,
@@ -149,18 +142,18 @@ fn line_step(
         1,
     );
     if burst.steps > 0 {
-        return InPlaceStep {
-            control: after_fast(control, burst, saved),
-            outcome: Outcome::Ran,
+        return Answered {
+            machine: after_fast(control, burst, saved),
+            answer: Outcome::Ran,
         };
     }
     let m = control.state(*registers, *saved);
-    let done = take_step(m, mem, layout, stamps, upcoming);
-    let next = done.state;
-    let outcome = done.outcome;
-    InPlaceStep {
-        control: put_back(next, registers, saved),
-        outcome: outcome,
+    let done = take_step(m, mem, layout, requests);
+    let next = done.machine;
+    let outcome = done.answer;
+    Answered {
+        machine: put_back(next, registers, saved),
+        answer: outcome,
     }
 }
 
@@ -172,29 +165,30 @@ pub fn write_steps(
     saved: &mut [u16; 16],
     mem: &mut [u8],
     layout: Layout,
-    stamps: &[u64],
+    timetable: Timetable<'_>,
     made: u64,
     budget: u64,
     out: &mut [u8],
     start: usize,
 ) -> StepsWritten
-    ensures { timetable stamps.now ≡ true → start ≤ length out.old → PageWritten (page_from (setting_of layout stamps.now) (length out.old - start) made (budget - made) (world (with_registers registers.old saved.old control) mem.old)) out.old out.new start result.filled result.steps (world (with_registers registers.new saved.new result.control) mem.new) result.remaining }
+    ensures { start ≤ length out.old → PageWritten (page_from (setting_of layout timetable.entry.stamps.now) (length out.old - start) made (budget - made) (world (with_registers registers.old saved.old control) mem.old)) out.old out.new start result.filled result.steps (world (with_registers registers.new saved.new result.control) mem.new) result.remaining }
 {
     if start > out.len() {
         return no_line(control, made, start);
     }
     let mut current = control;
-    let mut upcoming = find_upcoming(stamps, control.time.clock);
+    let mut requests = timetable.requests_at(control.time.clock);
     let mut steps = made;
     let mut filled = start;
+    // No `for`: how many lines there is room for is known only as they are written.
     while LINE_ROOM <= out.len() - filled {
         let going = course_of(current.halted, current.time.clock, steps, budget);
-        let Course::Goes = going else {
+        let None = going else {
             return last_line(current, steps, out, filled, going);
         };
-        let done = line_step(current, registers, saved, mem, layout, stamps, upcoming);
-        let next = done.control;
-        let kind = done.outcome;
+        let done = line_step(current, registers, saved, mem, layout, requests);
+        let next = done.machine;
+        let kind = done.answer;
         steps += 1;
         let further = put_step(
             out,
@@ -207,7 +201,7 @@ pub fn write_steps(
         );
         current = next;
         filled = further;
-        upcoming = skip_passed(stamps, upcoming, current.time.clock);
+        requests = requests.at(current.time.clock);
     }
     no_line(current, steps, filled)
 }

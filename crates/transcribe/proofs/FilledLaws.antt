@@ -1,20 +1,13 @@
 -- What a call that fills a page leaves, from the page of its parts. Assumes nothing.
-use Prim.Native.Nat.{ℕ, ◌+◌, ◌-◌, ◌≤◌, ◌<◌}
-use mathlib.Core.Bool.{true}
-use mathlib.Core.Path.{◌≡◌, refl, sym, ◌∙◌, ap, subst}
-use mathlib.Core.List.{List, [], ◌++◌, append-nil}
-use native.Mathlib.Omega.{arith}
-use native.Mathlib.Nat.{zero-add}
-use lib.ListN.{length, length-append}
-use lib.Seq.{sets, length-sets}
-use borrow.Author.Tests.{le-ltb, lt-ltb}
+use Rattle.std.proofs.Common.{ℕ, ◌+◌, ◌-◌, ◌≤◌, ◌<◌, true, ◌≡◌, refl, sym, ◌∙◌, ap, subst, List, [], ◌++◌, append-nil, arith, zero-add, length, length-append, le-ltb, lt-ltb, Result, Err, Ok, ◌⊎◌, inl, inr, true≢false}
+use Rattle.std.proofs.lemmas.List.Edits.{sets}
+use Rattle.std.proofs.Math.Seq.{length-sets}
 use Rattle.base.specs.declared.refusal.Refusal.{Refusal}
-use Rattle.base.specs.declared.verdict.Verdict.{Verdict}
-use Rattle.base.specs.declared.verdict.Verdict.TheVariants.{Taken as taken, Refused as refused}
 use Rattle.base.specs.FirstFailure.{first_failure}
-use Rattle.base.specs.Verdict.{verdict}
+use Rattle.base.specs.Verdict.{verdict, unrefused}
 use Rattle.base.proofs.Tests.{when_true, when_false}
-use Rattle.definition.specs.Setting.{Setting}
+use Rattle.layout.specs.declared.sections.Layout.{Layout}
+use Rattle.definition.specs.Setting.{Setting, setting_of}
 use Rattle.definition.specs.declared.state.State.{State}
 use Rattle.definition.specs.State.{World, world}
 use Rattle.definition.specs.Run.{run_from, run}
@@ -32,15 +25,29 @@ use Rattle.transcribe.specs.declared.progress.Filled.{Filled}
 use Rattle.steplines.specs.declared.steps.StepsWritten.{StepsWritten}
 use Rattle.steplines.specs.Page.{line_room, Page, empty_page, behind, page_from}
 use Rattle.transcribe.specs.Transcribe.{remaining_text, page_of}
-use Rattle.transcribe.specs.Promise.{world_of, transcript_after, fill_tests, text_left, page_by, FillPromise}
+use Rattle.transcribe.specs.Promise.{world_of, transcript_after, written_by, fill_tests, text_left, page_by, FillPromise}
 use Rattle.steplines.specs.internal.Written.{PageWritten}
-use Rattle.transcribe.specs.internal.Filled.{PageFilled}
+use Rattle.transcribe.specs.internal.Filled.{steps_remain, PageFilled}
 use Rattle.transcribe.proofs.TextLaws.{PageIs, still, page_of_is, world_counted}
 
 -- a call without tests is taken
-pub no_tests : taken ≡ verdict []
+pub no_tests : unrefused ≡ verdict []
 unfolding first_failure
 no_tests = refl
+
+-- what an answer says of the verdict that it was made by
+pub answered_taken : (v : Result (Unit {0}) Refusal) (n k : ℕ) → Ok n ≡ written_by v k → (unrefused ≡ v) × (n ≡ k)
+answered_taken (Ok _) n k e = (refl, cc)
+answered_taken (Err r) n k e = absurd (cc)
+
+pub answered_refused : (v : Result (Unit {0}) Refusal) (r : Refusal) (k : ℕ) → Err r ≡ written_by v k → Err r ≡ v
+answered_refused (Ok _) r k e = absurd (cc)
+answered_refused (Err f) r k e = cc
+
+-- what a call that is taken knows
+pub taken_timed : (L : Layout) (stamps : List ℕ) (budget : ℕ) (w : World) (v : Result (Unit {0}) Refusal)
+    → v ≡ verdict (transcript_tests (setting_of L stamps) budget w) → v ≡ unrefused → timetable stamps ≡ true
+taken_timed L stamps budget w v e f = (all_hold (transcript_tests (setting_of L stamps) budget w) (sym e ∙ f)).1.1.0
 
 module _ (S : Setting) (t : Transcript) (mem : List ℕ) where
   -- the page of the transcript in this room
@@ -57,11 +64,10 @@ module _ (S : Setting) (t : Transcript) (mem : List ℕ) where
       → c ≡ control_of t.state → next ≡ with_registers rs saved done.control
       → PageWritten (page_from S (length entry - start) t.steps (t.budget - t.steps) (world (with_registers t.state.registers t.state.saved c) mem))
       entry exit start done.filled done.steps (world (with_registers rs saved done.control) mem_then) done.remaining
-      → PageFilled (lines (length entry - start)) taken t
+      → PageFilled (lines (length entry - start)) unrefused t
       (record {
         transcript = record { state = next; steps = done.steps; budget = t.budget; remaining = done.remaining };
-        written = done.filled;
-        verdict = taken;
+        written = Ok done.filled;
       }) mem_then entry exit start
   run_filled mem_then entry exit start c rs saved done next e f q =
       let p = lines (length entry - start) in
@@ -69,10 +75,9 @@ module _ (S : Setting) (t : Transcript) (mem : List ℕ) where
       subst (λ (z : Control). PageWritten (page_from S (length entry - start) t.steps (t.budget - t.steps) (world (with_registers t.state.registers t.state.saved z) mem))
       entry exit start done.filled done.steps (world (with_registers rs saved done.control) mem_then) done.remaining) e q in
       record {
-        judged = refl;
         bytes = w.bytes;
-        written = w.ends;
-        fits = w.fits;
+        written = ap Ok w.ends;
+        fits = rw (← w.ends) w.fits;
         transcript =
             ap (λ (z : State). record { state = z; steps = done.steps; budget = t.budget; remaining = done.remaining }) (f ∙ ap (λ (z : World). z.state) w.world)
             ∙ ap (λ (z : ℕ). record { state = p.world.state; steps = z; budget = t.budget; remaining = done.remaining }) w.count
@@ -83,13 +88,12 @@ module _ (S : Setting) (t : Transcript) (mem : List ℕ) where
   -- ---- nothing written
 
   pub unfilled : (room : ℕ) (entry : List ℕ) → page room t.remaining ≡ empty_page t.steps (world_of t mem) t.remaining
-      → PageFilled (page room t.remaining) taken t (record { transcript = t; written = 0; verdict = taken }) mem entry entry 0
+      → PageFilled (page room t.remaining) (Ok _) t (record { transcript = t; written = Ok 0 }) mem entry entry 0
   unfilled room entry e =
       record {
-        judged = refl;
         bytes = ap (λ (z : Page). sets entry 0 z.text) (sym e);
-        written = ap (λ (z : Page). 0 + length z.text) (sym e);
-        fits = omega arith;
+        written = ap (λ (z : Page). Ok (0 + length z.text)) (sym e);
+        fits = rw e (omega arith);
         transcript = ap (transcript_after t) (sym e);
         memory = ap (λ (z : Page). z.world.memory) (sym e);
       }
@@ -111,24 +115,22 @@ module _ (S : Setting) (t : Transcript) (mem : List ℕ) where
   -- ---- the refusal's line
 
   pub refusal_filled : (entry exit : List ℕ) (r : Refusal) (line k : ℕ) → t.remaining ≡ RefusalLine r line → line_room ≤ length entry
-      → (k ≡ length (refusal_line r line)) × ((k ≤ 64) × (exit ≡ sets entry 0 (refusal_line r line)))
-      → PageFilled (page (length entry) t.remaining) taken t
+      → k ≡ length (refusal_line r line) → k ≤ 64 → exit ≡ sets entry 0 (refusal_line r line)
+      → PageFilled (page (length entry) t.remaining) unrefused t
       (record {
         transcript = record { state = t.state; steps = t.steps; budget = t.budget; remaining = Nothing };
-        written = k;
-        verdict = taken;
+        written = Ok k;
       }) mem entry exit 0
   unfolding page_of
-  refusal_filled entry exit r line k e i p =
+  refusal_filled entry exit r line k e i n m b =
       let q = behind (refusal_line r line) (empty_page t.steps (world_of t mem) Nothing) in
       let s : page (length entry) t.remaining ≡ q = ap (page (length entry)) e ∙ when_false _ _ _ (le-ltb (length entry) line_room i) in
       let a : refusal_line r line ++ [] ≡ refusal_line r line = append-nil (refusal_line r line) in
       rw s
       (record {
-        judged = refl;
-        bytes = p.1.1 ∙ ap (sets entry 0) (sym a);
-        written = p.0 ∙ sym (zero-add (length (refusal_line r line))) ∙ ap (λ (z : List ℕ). 0 + length z) (sym a);
-        fits = let m = p.1.0 in omega arith;
+        bytes = b ∙ ap (sets entry 0) (sym a);
+        written = ap Ok (n ∙ sym (zero-add (length (refusal_line r line))) ∙ ap (λ (z : List ℕ). 0 + length z) (sym a));
+        fits = rw a (omega arith);
         transcript = refl;
         memory = refl;
       })
@@ -136,51 +138,54 @@ module _ (S : Setting) (t : Transcript) (mem : List ℕ) where
   -- ---- the header, and the lines behind it
 
   pub header_filled : (mem_then entry mid exit : List ℕ) (start : ℕ) (r : Filled) → t.remaining ≡ Header → line_room ≤ length entry
-      → (start ≡ 22) × (mid ≡ sets entry 0 header_line) → PageFilled (lines (length mid - start)) taken t r mem_then mid exit start
-      → PageFilled (page (length entry) t.remaining) taken t r mem_then entry exit 0
+      → start ≡ 22 → mid ≡ sets entry 0 header_line → PageFilled (lines (length mid - start)) unrefused t r mem_then mid exit start
+      → PageFilled (page (length entry) t.remaining) unrefused t r mem_then entry exit 0
   unfolding page_of
-  header_filled mem_then entry mid exit start r e i h q =
-      let l : length mid ≡ length entry = ap length h.1 ∙ length-sets entry 0 header_line in
+  header_filled mem_then entry mid exit start r e i b h q =
+      let l : length mid ≡ length entry = ap length h ∙ length-sets entry 0 header_line in
       let s : page (length entry) t.remaining ≡ behind header_line (lines (length mid - start)) =
       ap (page (length entry)) e ∙ when_false _ _ _ (le-ltb (length entry) line_room i)
-      ∙ ap (λ (z : ℕ). behind header_line (lines z)) (let a : length entry - 22 ≡ length mid - start = omega (arith, h.0) in a) in
+      ∙ ap (λ (z : ℕ). behind header_line (lines z)) (let a : length entry - 22 ≡ length mid - start = omega (arith, b) in a) in
       let text = (lines (length mid - start)).text in
+      let n : start + length text ≡ 0 + length (header_line ++ text) =
+      ap (λ (z : ℕ). z + length text) b ∙ sym (length-append header_line text) ∙ sym (zero-add (length (header_line ++ text))) in
       rw s
       (record {
-        judged = q.judged;
-        bytes = q.bytes ∙ ap (λ (z : List ℕ). sets z start text) h.1 ∙ ap (λ (z : ℕ). sets (sets entry 0 header_line) z text) h.0
+        bytes = q.bytes ∙ ap (λ (z : List ℕ). sets z start text) h ∙ ap (λ (z : ℕ). sets (sets entry 0 header_line) z text) b
             ∙ sets_append entry 0 header_line text;
-        written = q.written ∙ ap (λ (z : ℕ). z + length text) h.0 ∙ sym (length-append header_line text) ∙ sym (zero-add (length (header_line ++ text)));
-        fits = let f = q.fits in omega arith;
+        written = q.written ∙ ap Ok n;
+        fits = rw (← n) (let f = q.fits in omega arith);
         transcript = q.transcript;
         memory = q.memory;
       })
 
-  pub steps_filled : (mem_then entry exit : List ℕ) (r : Filled) → t.remaining ≡ Steps
-      → PageFilled (lines (length entry - 0)) taken t r mem_then entry exit 0 → PageFilled (page (length entry) t.remaining) taken t r mem_then entry exit 0
+  pub not_header : (remaining : Remaining) → steps_remain remaining ≡ true → (remaining ≡ Header → ⊥) → remaining ≡ Steps
+  not_header (RefusalLine r line) h f = absurd (true≢false (sym h))
+  not_header Header h f = absurd (f refl)
+  not_header Steps h f = refl
+  not_header Nothing h f = absurd (true≢false (sym h))
+
+  pub steps_filled : (mem_then entry exit : List ℕ) (r : Filled) → steps_remain t.remaining ≡ true → (t.remaining ≡ Header → ⊥)
+      → PageFilled (lines (length entry - 0)) unrefused t r mem_then entry exit 0 → PageFilled (page (length entry) t.remaining) unrefused t r mem_then entry exit 0
   unfolding page_of
-  steps_filled mem_then entry exit r e q =
+  steps_filled mem_then entry exit r h f q =
       let n : length entry - 0 ≡ length entry = omega arith in
-      let s : page (length entry) t.remaining ≡ lines (length entry) = ap (page (length entry)) e in
+      let s : page (length entry) t.remaining ≡ lines (length entry) = ap (page (length entry)) (not_header t.remaining h f) in
       rw s (rw n at q)
 
   -- ---- by the verdict
 
-  module _ (v u : Verdict) (same : v ≡ u) where
-    pub refused_filled : (entry : List ℕ) (f : Refusal) → v ≡ refused f
-        → PageFilled (page_by S (length entry) t mem u) u t (record { transcript = t; written = 0; verdict = refused f }) mem entry entry 0
+  module _ (v u : Result (Unit {0}) Refusal) (same : v ≡ u) where
+    pub refused_filled : (entry : List ℕ) (f : Refusal) → v ≡ Err f
+        → PageFilled (page_by S (length entry) t mem u) u t (record { transcript = t; written = Err f }) mem entry entry 0
     refused_filled entry f e =
-        subst (λ (z : Verdict). PageFilled (page_by S (length entry) t mem z) z t (record { transcript = t; written = 0; verdict = refused f }) mem entry entry 0)
-        (sym e ∙ same) (record { judged = refl; bytes = refl; written = refl; fits = omega arith; transcript = refl; memory = refl })
+        subst (λ (z : Result (Unit {0}) Refusal). PageFilled (page_by S (length entry) t mem z) z t (record { transcript = t; written = Err f }) mem entry entry 0)
+        (sym e ∙ same) (record { bytes = refl; written = refl; fits = omega arith; transcript = refl; memory = refl })
 
-    pub taken_filled : (mem_then entry exit : List ℕ) (r : Filled) → v ≡ taken → PageFilled (page (length entry) t.remaining) taken t r mem_then entry exit 0
+    pub taken_filled : (mem_then entry exit : List ℕ) (r : Filled) → v ≡ unrefused → PageFilled (page (length entry) t.remaining) unrefused t r mem_then entry exit 0
         → PageFilled (page_by S (length entry) t mem u) u t r mem_then entry exit 0
     taken_filled mem_then entry exit r e q =
-        subst (λ (z : Verdict). PageFilled (page_by S (length entry) t mem z) z t r mem_then entry exit 0) (sym e ∙ same) q
-
-  -- what a call that is taken knows
-  pub taken_timed : (v : Verdict) → v ≡ verdict (transcript_tests S t.budget (world_of t mem)) → v ≡ taken → timetable S.stamps ≡ true
-  taken_timed v e f = (all_hold (transcript_tests S t.budget (world_of t mem)) (sym e ∙ f)).1.1.0
+        subst (λ (z : Result (Unit {0}) Refusal). PageFilled (page_by S (length entry) t mem z) z t r mem_then entry exit 0) (sym e ∙ same) q
 
   -- ---- the promise
 
@@ -199,26 +204,25 @@ module _ (S : Setting) (t : Transcript) (mem : List ℕ) where
       )
 
   -- by the verdict
-  by_verdict : (room : ℕ) (v : Verdict)
+  by_verdict : (room : ℕ) (v : Result (Unit {0}) Refusal)
       → (text_left S t mem ≡ (page_by S room t mem v).text ++ text_left S (transcript_after t (page_by S room t mem v)) (page_by S room t mem v).world.memory)
       × ((page_by S room t mem v).world ≡ world_at (run S ((page_by S room t mem v).steps - t.steps) (world_of t mem)))
-  by_verdict room taken = page_promised room _ (page_of_is S room t.steps (t.budget - t.steps) (world_of t mem) t.remaining)
-  by_verdict room (refused f) =
+  by_verdict room (Ok _) = page_promised room _ (page_of_is S room t.steps (t.budget - t.steps) (world_of t mem) t.remaining)
+  by_verdict room (Err f) =
       page_promised 0 _ (still S 0 t.steps (t.budget - t.steps) (world_of t mem) t.remaining (λ i j. absurd (omega arith)))
 
-  pub promised : (v : Verdict) → v ≡ verdict (fill_tests S t mem t.remaining) → (mem_then entry exit : List ℕ) (r : Filled)
+  pub promised : (v : Result (Unit {0}) Refusal) → v ≡ verdict (fill_tests S t mem t.remaining) → (mem_then entry exit : List ℕ) (r : Filled)
       → PageFilled (page_by S (length entry) t mem v) v t r mem_then entry exit 0 → FillPromise S t mem entry r mem_then exit
   promised v e mem_then entry exit r q =
       let u = verdict (fill_tests S t mem t.remaining) in
       let f : PageFilled (page_by S (length entry) t mem u) u t r mem_then entry exit 0 =
-      subst (λ (z : Verdict). PageFilled (page_by S (length entry) t mem z) z t r mem_then entry exit 0) e q in
+      subst (λ (z : Result (Unit {0}) Refusal). PageFilled (page_by S (length entry) t mem z) z t r mem_then entry exit 0) e q in
       let p = page_by S (length entry) t mem u in
       let b = by_verdict (length entry) u in
       record {
-        judged = f.judged;
         bytes = f.bytes;
-        written = f.written ∙ zero-add (length p.text);
-        fits = f.fits;
+        written = f.written ∙ ap (written_by u) (zero-add (length p.text));
+        fits = let i = f.fits in omega arith;
         transcript = f.transcript;
         memory = f.memory;
         next = b.0
@@ -227,3 +231,18 @@ module _ (S : Setting) (t : Transcript) (mem : List ℕ) where
         run_so_far = ap (λ (z : Transcript). world_of z mem_then) f.transcript ∙ ap (λ (z : List ℕ). world p.world.state z) f.memory
             ∙ b.1 ∙ ap (λ (z : Transcript). world_at (run S (z.steps - t.steps) (world_of t mem))) (sym f.transcript);
       }
+
+  -- by what remains
+  pub nothing_promised : (entry : List ℕ) → t.remaining ≡ Nothing → FillPromise S t mem entry (record { transcript = t; written = Ok 0 }) mem entry
+  nothing_promised entry e =
+      promised unrefused (rw e no_tests) mem entry entry _ (unfilled (length entry) entry (rw e (nothing_left (length entry))))
+
+  pub line_promised : (entry exit : List ℕ) (f : Filled) (r : Refusal) (line : ℕ) → t.remaining ≡ RefusalLine r line
+      → PageFilled (page (length entry) t.remaining) unrefused t f mem entry exit 0 → FillPromise S t mem entry f mem exit
+  line_promised entry exit f r line e q = promised unrefused (rw e no_tests) mem entry exit f q
+
+  pub steps_promised : (mem_then entry exit : List ℕ) (f : Filled) → (t.remaining ≡ Header) ⊎ (t.remaining ≡ Steps)
+      → PageFilled (page_by S (length entry) t mem (verdict (transcript_tests S t.budget (world_of t mem)))) (verdict (transcript_tests S t.budget (world_of t mem))) t f mem_then entry exit 0
+      → FillPromise S t mem entry f mem_then exit
+  steps_promised mem_then entry exit f (inl e) q = promised _ (rw e refl) mem_then entry exit f q
+  steps_promised mem_then entry exit f (inr e) q = promised _ (rw e refl) mem_then entry exit f q

@@ -1,19 +1,18 @@
 // One call's page: the refusal's line, or the header and the lines of a run that is taken.
-ghost use Rattle.std.specs.Prelude.{ℕ, ◌-◌, ◌≤◌, ◌≡◌, true, List, length};
-ghost use Rattle.base.specs.declared.verdict.Verdict.TheVariants.{Taken as TAKEN};
-ghost use Rattle.base.specs.Verdict.{verdict};
+ghost use Rattle.std.specs.Prelude.{ℕ, ◌-◌, ◌≤◌, ◌≡◌, List, length, true};
+ghost use Rattle.base.specs.Verdict.{verdict, unrefused};
 ghost use Rattle.definition.specs.Setting.{Setting, setting_of};
-ghost use Rattle.definition.specs.Calls.{timetable, transcript_tests};
-ghost use Rattle.steplines.specs.declared.remaining.Remaining.TheVariants.{RefusalLine as REFUSAL};
+ghost use Rattle.definition.specs.Calls.{transcript_tests};
+ghost use Rattle.steplines.specs.declared.remaining.Remaining.TheVariants.{RefusalLine as REFUSAL, Header as HEADER};
 ghost use Rattle.steplines.specs.Page.{page_from};
 ghost use Rattle.transcribe.specs.Transcribe.{page_of};
 ghost use Rattle.transcribe.specs.Promise.{world_of, page_by};
-ghost use Rattle.transcribe.specs.internal.Filled.{from_header, PageFilled};
+ghost use Rattle.transcribe.specs.internal.Filled.{steps_remain, PageFilled};
 
 use crate::progress::{Filled, Transcript};
 use admission::verdict::judge_transcript;
 use base::refusal::Refusal;
-use base::verdict::Verdict;
+use clock::timetable::Timetable;
 use layout::sections::Layout;
 use steplines::remaining::Remaining;
 use steplines::steps::{LINE_ROOM, write_steps};
@@ -23,13 +22,12 @@ use transcript::line::{header_line, refusal_line};
 // The line of a sheet's refusal.
 pub fn refusal_page(t: Transcript, out: &mut [u8], refusal: Refusal, line: u64) -> Filled
     requires { t.remaining ≡ REFUSAL refusal line }
-    ensures { (mem : List ℕ) (S : Setting) → PageFilled (page_of S (length out.old) t.steps (t.budget - t.steps) (world_of t mem) t.remaining) TAKEN t result mem out.old out.new 0 }
+    ensures { (mem : List ℕ) (S : Setting) → PageFilled (page_of S (length out.old) t.steps (t.budget - t.steps) (world_of t mem) t.remaining) unrefused t result mem out.old out.new 0 }
 {
     if out.len() < LINE_ROOM {
         return Filled {
             transcript: t,
-            written: 0,
-            verdict: Verdict::Taken,
+            written: Ok(0),
         };
     }
     let k = refusal_line(out, refusal, line);
@@ -38,22 +36,22 @@ pub fn refusal_page(t: Transcript, out: &mut [u8], refusal: Refusal, line: u64) 
             remaining: Remaining::Nothing,
             ..t
         },
-        written: k,
-        verdict: Verdict::Taken,
+        written: Ok(k),
     }
 }
 
 // The lines of a run from where it stands, behind what is filled.
+#[tactic(auto, using(crate::proofs::FilledLaws::run_filled))]
 fn run_page(
     t: Transcript,
     mem: &mut [u8],
     layout: Layout,
-    stamps: &[u64],
+    timetable: Timetable<'_>,
     out: &mut [u8],
     start: usize,
 ) -> Filled
-    requires { (timetable stamps.now ≡ true) × (start ≤ length out.old) }
-    ensures { PageFilled (page_from (setting_of layout stamps.now) (length out.old - start) t.steps (t.budget - t.steps) (world_of t mem.old)) TAKEN t result mem.new out.old out.new start }
+    requires { start ≤ length out.old }
+    ensures { PageFilled (page_from (setting_of layout timetable.entry.stamps.now) (length out.old - start) t.steps (t.budget - t.steps) (world_of t mem.old)) unrefused t result mem.new out.old out.new start }
 {
     let state = t.state;
     let mut registers = state.registers;
@@ -64,71 +62,77 @@ fn run_page(
         &mut saved,
         mem,
         layout,
-        stamps,
+        timetable,
         t.steps,
         t.budget,
         out,
         start,
     );
-    let last = done.control;
-    let remaining = done.remaining;
     Filled {
         transcript: Transcript {
-            state: last.state(registers, saved),
+            state: done.control.state(registers, saved),
             steps: done.steps,
-            budget: t.budget,
-            remaining: remaining,
+            remaining: done.remaining,
+            ..t
         },
-        written: done.filled,
-        verdict: Verdict::Taken,
+        written: Ok(done.filled),
     }
+}
+
+// The header, and the lines of the run behind it.
+fn header_page(
+    t: Transcript,
+    mem: &mut [u8],
+    layout: Layout,
+    timetable: Timetable<'_>,
+    out: &mut [u8],
+) -> Filled
+    requires { t.remaining ≡ HEADER }
+    ensures { PageFilled (page_of (setting_of layout timetable.entry.stamps.now) (length out.old) t.steps (t.budget - t.steps) (world_of t mem.old) t.remaining) unrefused t result mem.new out.old out.new 0 }
+{
+    if out.len() < LINE_ROOM {
+        return Filled {
+            transcript: t,
+            written: Ok(0),
+        };
+    }
+    let start = header_line(out);
+    run_page(t, mem, layout, timetable, out, start)
 }
 
 // The page of a run that is taken: the header first, where it is still to come.
 fn taken_page(
     t: Transcript,
-    header: bool,
     mem: &mut [u8],
     layout: Layout,
-    stamps: &[u64],
+    timetable: Timetable<'_>,
     out: &mut [u8],
 ) -> Filled
-    requires { (t.remaining ≡ from_header header) × (timetable stamps.now ≡ true) }
-    ensures { PageFilled (page_of (setting_of layout stamps.now) (length out.old) t.steps (t.budget - t.steps) (world_of t mem.old) t.remaining) TAKEN t result mem.new out.old out.new 0 }
+    requires { steps_remain t.remaining ≡ true }
+    ensures { PageFilled (page_of (setting_of layout timetable.entry.stamps.now) (length out.old) t.steps (t.budget - t.steps) (world_of t mem.old) t.remaining) unrefused t result mem.new out.old out.new 0 }
 {
-    if !header {
-        return run_page(t, mem, layout, stamps, out, 0);
+    match t.remaining {
+        Remaining::Header => header_page(t, mem, layout, timetable, out),
+        _ => run_page(t, mem, layout, timetable, out, 0),
     }
-    if out.len() < LINE_ROOM {
-        return Filled {
-            transcript: t,
-            written: 0,
-            verdict: Verdict::Taken,
-        };
-    }
-    let start = header_line(out);
-    run_page(t, mem, layout, stamps, out, start)
 }
 
 // The page of a run, if it is taken: its tests are made once.
 pub fn tested_page(
     t: Transcript,
-    header: bool,
     mem: &mut [u8],
     layout: Layout,
     stamps: &[u64],
     out: &mut [u8],
 ) -> Filled
-    requires { t.remaining ≡ from_header header }
+    requires { steps_remain t.remaining ≡ true }
     ensures { PageFilled (page_by (setting_of layout stamps.now) (length out.old) t mem.old (verdict (transcript_tests (setting_of layout stamps.now) t.budget (world_of t mem.old)))) (verdict (transcript_tests (setting_of layout stamps.now) t.budget (world_of t mem.old))) t result mem.new out.old out.new 0 }
 {
-    let state = t.state;
-    match judge_transcript(state, mem, layout, stamps, t.budget) {
-        Verdict::Refused(refusal) => Filled {
+    match judge_transcript(t.state, mem, layout, stamps, t.budget) {
+        Err(refusal) => Filled {
             transcript: t,
-            written: 0,
-            verdict: Verdict::Refused(refusal),
+            written: Err(refusal),
         },
-        Verdict::Taken => taken_page(t, header, mem, layout, stamps, out),
+        Ok(()) => taken_page(t, mem, layout, Timetable { stamps }, out),
     }
 }

@@ -3,7 +3,7 @@ ghost use Rattle.definition.specs.Setting.{setting_of};
 ghost use Rattle.transcribe.specs.Promise.{FillPromise};
 
 use crate::page::{refusal_page, tested_page};
-use base::verdict::Verdict;
+use base::refusal::Refusal;
 use definition::state::State;
 use layout::sections::Layout;
 use steplines::remaining::Remaining;
@@ -17,12 +17,11 @@ pub struct Transcript {
     pub remaining: Remaining,
 }
 
-// What a call hands back: where the transcript stands, how many bytes were written, and whether the call was taken.
+// What a call hands back: where the transcript stands, and how many bytes were written or why the call was refused.
 #[derive(Clone, Copy)]
 pub struct Filled {
     pub transcript: Transcript,
-    pub written: usize,
-    pub verdict: Verdict,
+    pub written: Result<usize, Refusal>,
 }
 
 impl Transcript {
@@ -30,16 +29,13 @@ impl Transcript {
     pub fn fill(self, mem: &mut [u8], layout: Layout, stamps: &[u64], out: &mut [u8]) -> Filled
         ensures { FillPromise (setting_of layout stamps.now) self mem.old out.old result mem.new out.new }
     {
-        let remaining = self.remaining;
-        match remaining {
+        match self.remaining {
             Remaining::Nothing => Filled {
                 transcript: self,
-                written: 0,
-                verdict: Verdict::Taken,
+                written: Ok(0),
             },
             Remaining::RefusalLine(refusal, line) => refusal_page(self, out, refusal, line),
-            Remaining::Header => tested_page(self, true, mem, layout, stamps, out),
-            Remaining::Steps => tested_page(self, false, mem, layout, stamps, out),
+            Remaining::Header | Remaining::Steps => tested_page(self, mem, layout, stamps, out),
         }
     }
 }

@@ -1,13 +1,12 @@
 -- What is written into a lent buffer, behind what is filled. No promise rests on it.
-use Rattle.std.specs.Prelude.{ℕ, ◌+◌, ◌≤◌, List, [], ◌≡◌, length}
+use Rattle.answers.specs.declared.answer.End.{End}
+use Rattle.std.specs.Prelude.{ℕ, ◌+◌, ◌≤◌, List, [], ◌≡◌, length, Option, None, Some}
 use Rattle.std.proofs.lemmas.List.Edits.{sets}
 use Rattle.definition.specs.State.{World}
 use Rattle.steplines.specs.declared.remaining.Remaining.{Remaining}
 use Rattle.storage.specs.declared.control.Control.{Control}
 use Rattle.transcript.specs.Transcript.{end_line}
 use Rattle.steplines.specs.declared.remaining.Remaining.TheVariants.{Steps, Nothing}
-use Rattle.steplines.specs.declared.steps.Course.{Course}
-use Rattle.steplines.specs.declared.steps.Course.TheVariants.{Goes, Stops}
 use Rattle.steplines.specs.declared.steps.StepsWritten.{StepsWritten}
 use Rattle.steplines.specs.Page.{Page}
 
@@ -21,17 +20,17 @@ pub record PageWritten (p : Page) (entry exit : List ℕ) (start filled steps : 
   pub rest : remaining ≡ p.remaining
 
 -- the line of an end, none where the run goes on
-abbrev pub last_text : Course → ℕ → ℕ → List ℕ
-last_text Goes steps clock = []
-last_text (Stops e) steps clock = end_line e steps clock
+abbrev pub last_text : Option End → ℕ → ℕ → List ℕ
+last_text None steps clock = []
+last_text (Some e) steps clock = end_line e steps clock
 
 -- what remains then
-abbrev pub last_remaining : Course → Remaining
-last_remaining Goes = Steps
-last_remaining (Stops e) = Nothing
+abbrev pub last_remaining : Option End → Remaining
+last_remaining None = Steps
+last_remaining (Some e) = Nothing
 
 -- the line of an end that stands in the buffer behind what is filled
-pub record LastLine (going : Course) (c : Control) (steps : ℕ) (entry exit : List ℕ) (filled : ℕ) (r : StepsWritten) : Type 0 where
+pub record LastLine (going : Option End) (c : Control) (steps : ℕ) (entry exit : List ℕ) (filled : ℕ) (r : StepsWritten) : Type 0 where
   pub bytes : exit ≡ sets entry filled (last_text going steps c.time.clock)
   pub ends : r.filled ≡ filled + length (last_text going steps c.time.clock)
   pub fits : r.filled ≤ length entry

@@ -1,4 +1,4 @@
-use mathlib.Core.Path.{refl}
+use Rattle.std.proofs.Common.{refl}
 use Rattle.output.proofs.OpenLaws.{started}
 use Rattle.output.proofs.open.unwritten.Goals as goal
 

@@ -1,4 +1,4 @@
-use mathlib.Core.Path.{sym}
+use Rattle.std.proofs.Common.{sym}
 use Rattle.steplines.proofs.CourseLaws.{course_halted, course_clock, course_spent, course_goes}
 use Rattle.steplines.proofs.steps.course_of.Goals as goal
 

@@ -1,7 +1,4 @@
-use Prim.Native.Nat.{ℕ, ◌+◌, ◌-◌, ◌≤◌}
-use mathlib.Core.Path.{◌∙◌, ap}
-use native.Mathlib.Omega.{arith}
-use lib.ListN.{length}
+use Rattle.std.proofs.Common.{ℕ, ◌+◌, ◌-◌, ◌≤◌, ◌∙◌, ap, arith, length}
 use borrow.Rule.Slice.PartMut.{put_mid}
 use Rattle.transcript.specs.Transcript.{end_line}
 use Rattle.steplines.proofs.PartLaws.{part_sets}

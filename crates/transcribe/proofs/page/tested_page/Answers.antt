@@ -1,23 +1,12 @@
-use Rattle.definition.specs.Setting.{setting_of}
+use Rattle.std.proofs.Common.{rules}
 use Rattle.transcribe.proofs.FilledLaws.{taken_timed, refused_filled, taken_filled}
 use Rattle.transcribe.proofs.page.tested_page.Goals as goal
 
-pub taken_page-requires : goal.taken_page-requires
-taken_page-requires c =
-    let a = c.args in
-    let f = taken_timed (setting_of a.layout a.stamps.now) a.t a.mem.now _ c.judge_transcript.ensures c.in-Taken.is in
-    (c.requires, f)
+pub invariant_of-taken_page : goal.invariant_of-taken_page
+invariant_of-taken_page c = record { tested = taken_timed _ _ _ _ _ c.judge_transcript.ensures c.in-Ok.is }
 
-pub returns-in-Refused : goal.returns-in-Refused
-returns-in-Refused c =
-    let a = c.args in
-    let v = c.judge_transcript in
-    refused_filled (setting_of a.layout a.stamps.now) a.t a.mem.now v.result _ v.ensures a.out.now _ c.in-Refused.is
+pub returns-in-Err : goal.returns-in-Err
+returns-in-Err c = search (rules, refused_filled)
 
-pub returns-in-Taken : goal.returns-in-Taken
-returns-in-Taken c =
-    let a = c.args in
-    let v = c.judge_transcript in
-    let r = c.taken_page in
-    taken_filled (setting_of a.layout a.stamps.now) a.t a.mem.now v.result _ v.ensures _ a.out.now _ r.result
-    c.in-Taken.is r.ensures
+pub returns-in-Ok : goal.returns-in-Ok
+returns-in-Ok c = search (rules, taken_filled)
