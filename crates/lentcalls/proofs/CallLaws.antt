@@ -1,7 +1,9 @@
 -- What start, step and run must hand back, by the answer of the machine's own call. Assumes nothing.
+use Rattle.std.specs.Prelude.{Result, Err, Ok}
 use mathlib.Core.Path.{◌≡◌, sym, ◌∙◌, ap}
 use mathlib.Core.List.{List}
 use Prim.Native.Nat.{ℕ}
+use Rattle.base.specs.Verdict.{unrefused}
 use Rattle.base.specs.declared.refusal.Refusal.{Refusal}
 use Rattle.base.specs.Refusal.{refusal_number}
 use Rattle.base.proofs.Refusals.{number_not_zero}
@@ -9,8 +11,6 @@ use Rattle.base.proofs.KeptLaws.{kept, given}
 use Rattle.layout.specs.declared.sections.Layout.{Layout}
 use Rattle.definition.specs.Setting.{setting_of}
 use Rattle.definition.specs.declared.state.State.{State}
-use Rattle.answers.specs.declared.answer.StartAnswer.{StartAnswer}
-use Rattle.answers.specs.declared.answer.StartAnswer.TheVariants.{Done as HasStarted, Refused as NotStarted}
 use Rattle.definition.specs.State.{world}
 use Rattle.definition.specs.Answers.{start_refusal}
 use Rattle.definition.specs.Calls.{Called, called, step_call, run_call}
@@ -23,16 +23,16 @@ use Rattle.lentcalls.specs.Calls.{step_on, run_on, StartReturns, CallReturns}
 
 -- ---- start
 
-module _ (before : Numbers) (mem : List ℕ) (m : State) (answer : StartAnswer) (p : StartPromise mem m answer) where
-  pub start_refused : (r : Refusal) → answer ≡ NotStarted r → (n : ℕ) → n ≡ refusal_number r → StartReturns mem before before n
+module _ (before : Numbers) (mem : List ℕ) (m : State) (answer : Result (Unit {0}) Refusal) (p : StartPromise mem m answer) where
+  pub start_refused : (r : Refusal) → answer ≡ Err r → (n : ℕ) → n ≡ refusal_number r → StartReturns mem before before n
   start_refused r h n k =
-      record { number = k ∙ ap start_refusal (sym h ∙ ap (λ (x : Called StartAnswer). x.answer) p.result); machine = kept n r k _ _ }
+      record { number = k ∙ ap start_refusal (sym h ∙ ap (λ (x : Called (Result (Unit {0}) Refusal)). x.answer) p.result); machine = kept n r k _ _ }
 
-  pub start_taken : answer ≡ HasStarted → (after : Numbers) → after ≡ numbers_of m → StartReturns mem before after 0
+  pub start_taken : answer ≡ unrefused → (after : Numbers) → after ≡ numbers_of m → StartReturns mem before after 0
   start_taken h after k =
       record {
-        number = ap start_refusal (sym h ∙ ap (λ (x : Called StartAnswer). x.answer) p.result);
-        machine = given _ _ (k ∙ ap (λ (x : Called StartAnswer). numbers_of x.state) p.result);
+        number = ap start_refusal (sym h ∙ ap (λ (x : Called (Result (Unit {0}) Refusal)). x.answer) p.result);
+        machine = given _ _ (k ∙ ap (λ (x : Called (Result (Unit {0}) Refusal)). numbers_of x.state) p.result);
       }
 
 -- ---- step and run, on what stands for the caller's numbers

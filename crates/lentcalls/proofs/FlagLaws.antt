@@ -1,10 +1,10 @@
 -- Step and run refuse numbers whose halted or held is neither 0 nor 1. Assumes nothing.
+use Rattle.base.specs.declared.refusal.Refusal.{Refusal}
+use Rattle.std.specs.Prelude.{Result, Err, Ok}
 use mathlib.Core.Path.{◌≡◌, refl, sym, ◌∙◌}
 use mathlib.Core.Bool.{true, true≢false}
 use Prim.Native.Nat.{ℕ}
-use Rattle.base.specs.declared.verdict.Verdict.{Verdict}
-use Rattle.base.specs.declared.verdict.Verdict.TheVariants.{Taken as taken, Refused as refused}
-use Rattle.base.specs.Verdict.{verdict}
+use Rattle.base.specs.Verdict.{verdict, unrefused}
 use Rattle.base.proofs.Refusals.{number_not_zero}
 use Rattle.definition.specs.Setting.{Setting, setting_of}
 use Rattle.definition.specs.State.{World, world, framed}
@@ -19,19 +19,19 @@ use Rattle.lentcalls.specs.Calls.{step_on, run_on}
 use Rattle.lentcalls.specs.Laws.{OddFlagRefused}
 
 module _ (S : Setting) (w : World) where
-  step_number : (v : Verdict) → (v ≡ taken → ⊥) → step_refusal (step_answered S w v).answer ≡ 0 → ⊥
-  step_number taken h e = h refl
-  step_number (refused r) h e = number_not_zero r e
+  step_number : (v : Result (Unit {0}) Refusal) → (v ≡ unrefused → ⊥) → step_refusal (step_answered S w v).answer ≡ 0 → ⊥
+  step_number (Ok _) h e = h refl
+  step_number (Err r) h e = number_not_zero r e
 
-  run_number : (budget : ℕ) (v : Verdict) → (v ≡ taken → ⊥) → run_refusal (run_answered S budget w v).answer ≡ 0 → ⊥
-  run_number budget taken h e = h refl
-  run_number budget (refused r) h e = number_not_zero r e
+  run_number : (budget : ℕ) (v : Result (Unit {0}) Refusal) → (v ≡ unrefused → ⊥) → run_refusal (run_answered S budget w v).answer ≡ 0 → ⊥
+  run_number budget (Ok _) h e = h refl
+  run_number budget (Err r) h e = number_not_zero r e
 
   -- the fourth test is the frame
-  step_frame : verdict (step_tests S w) ≡ taken → framed S w.state ≡ true
+  step_frame : verdict (step_tests S w) ≡ unrefused → framed S w.state ≡ true
   step_frame e = (all_hold _ e).1.1.1.0
 
-  run_frame : (budget : ℕ) → verdict (run_tests S budget w) ≡ taken → framed S w.state ≡ true
+  run_frame : (budget : ℕ) → verdict (run_tests S budget w) ≡ unrefused → framed S w.state ≡ true
   run_frame budget e = (all_hold _ e).1.1.1.0
 
 pub odd_flag_refused : OddFlagRefused

@@ -1,8 +1,9 @@
 -- Start, step and run on what a caller lends: the machine's own calls, on the machine and the layout of the caller's numbers.
-use Rattle.std.specs.Prelude.{ℕ, ◌≡◌, List}
+use Rattle.answers.specs.declared.answer.Stopped.{Stopped}
+use Rattle.answers.specs.declared.answer.Outcome.{Outcome}
+use Rattle.base.specs.declared.refusal.Refusal.{Refusal}
+use Rattle.std.specs.Prelude.{ℕ, ◌≡◌, List, Result}
 use Rattle.definition.specs.Setting.{setting_of}
-use Rattle.answers.specs.declared.answer.StepAnswer.{StepAnswer}
-use Rattle.answers.specs.declared.answer.RunAnswer.{RunAnswer}
 use Rattle.definition.specs.State.{world}
 use Rattle.definition.specs.Answers.{start_refusal, step_refusal, run_refusal, step_kind, step_cause, run_end, run_steps}
 use Rattle.definition.specs.Calls.{Called, start_call, step_call, run_call}
@@ -11,11 +12,11 @@ use Rattle.lentstate.specs.State.{Numbers, machine_of, numbers_of}
 use Rattle.base.specs.Kept.{unless_refused}
 
 -- the step call of a caller's machine, memory, layout and stamps
-unfoldable pub step_on : Numbers → List ℕ → List ℕ → List ℕ → Called StepAnswer
+unfoldable pub step_on : Numbers → List ℕ → List ℕ → List ℕ → Called (Result Outcome Refusal)
 step_on machine memory layout stamps = step_call (setting_of (layout_of layout) stamps) (world (machine_of machine) memory)
 
 -- the run call of a caller's machine, memory, layout, stamps and budget
-unfoldable pub run_on : Numbers → List ℕ → List ℕ → List ℕ → ℕ → Called RunAnswer
+unfoldable pub run_on : Numbers → List ℕ → List ℕ → List ℕ → ℕ → Called (Result Stopped Refusal)
 run_on machine memory layout stamps budget = run_call (setting_of (layout_of layout) stamps) budget (world (machine_of machine) memory)
 
 -- what start promises of the number that it answers and of the machine's numbers after it

@@ -4,23 +4,18 @@ ghost use Rattle.definition.specs.Answers.{cause_of};
 ghost use Rattle.lentstate.specs.State.{numbers};
 ghost use Rattle.lentcalls.specs.Calls.{StartReturns, StepReturns, RunReturns};
 
-use answers::answer::{Outcome, RunAnswer, StartAnswer, StepAnswer};
-use lentlayout::numbers::layout_of;
+use answers::answer::{Outcome, Stopped};
+use layout::sections::Layout;
 use lentstate::state::{control_of, hand_back, hand_control};
 use machine::calls::{Machine, run_in_place, step_in_place};
 
-// The number of a step's cause, 0 where it is no reset.
+// The number of a step's cause, 0 where it is no reset: the C interface has numbers.
 fn cause_of(outcome: Outcome) -> u8
     ensures { result ≡ cause_of outcome }
 {
     match outcome {
-        Outcome::Ran => 0,
-        Outcome::Plain => 0,
-        Outcome::Padded => 0,
-        Outcome::Chained => 0,
-        Outcome::Back => 0,
-        Outcome::Reset(cause) => cause.number(),
-        Outcome::Halted => 0,
+        Outcome::Reset(cause) => u8::from(cause),
+        _ => 0,
     }
 }
 
@@ -38,8 +33,8 @@ pub fn start_lent(
     let m = done.machine.0;
     let answer = done.answer;
     match answer {
-        StartAnswer::Refused(refusal) => refusal.number(),
-        StartAnswer::Done => {
+        Err(refusal) => u8::from(refusal),
+        Ok(()) => {
             hand_back(m, registers, saved, control, time);
             0
         }
@@ -61,12 +56,12 @@ pub fn step_lent(
     ensures { StepReturns mem.old layout.now stamps.now (numbers registers.old saved.old control.old time.old) (numbers registers.new saved.new control.new time.new) mem.new kind.old kind.new cause.old cause.new result }
 {
     let rest = control_of(*control, *time);
-    let done = step_in_place(rest, registers, saved, mem, layout_of(*layout), stamps);
-    let next = done.control;
+    let done = step_in_place(rest, registers, saved, mem, Layout::from(*layout), stamps);
+    let next = done.machine;
     let answer = done.answer;
     match answer {
-        StepAnswer::Refused(refusal) => refusal.number(),
-        StepAnswer::Done(outcome) => {
+        Err(refusal) => u8::from(refusal),
+        Ok(outcome) => {
             hand_control(next, control, time);
             *kind = outcome.letter();
             *cause = cause_of(outcome);
@@ -96,15 +91,20 @@ pub fn run_lent(
         registers,
         saved,
         mem,
-        layout_of(*layout),
+        Layout::from(*layout),
         stamps,
         budget,
     );
-    let last = done.control;
+    let last = done.machine;
     let answer = done.answer;
     match answer {
-        RunAnswer::Refused(refusal) => refusal.number(),
-        RunAnswer::Done(ending, made) => {
+        Err(refusal) => u8::from(refusal),
+        Ok(
+            Stopped {
+                end: ending,
+                steps: made,
+            },
+        ) => {
             hand_control(last, control, time);
             *end = ending.letter();
             *steps = made;

@@ -4,10 +4,10 @@ ghost use Rattle.layout.specs.Rules.{layout_fault};
 ghost use Rattle.lentlayout.specs.Layout.{layout_of};
 ghost use Rattle.lentlayout.specs.Fault.{rule_number, fault_number};
 
-use crate::numbers::layout_of;
-use layout::rules::{Fault, Rule};
+use layout::rules::Rule;
+use layout::sections::Layout;
 
-// The number of a rule, in document 01's order from 1.
+// The number of a rule, in document 01's order from 1; no `From`, which would stand in the crate of `Rule`.
 fn rule_number(rule: Rule) -> u8
     ensures { result ≡ rule_number rule }
 {
@@ -19,12 +19,9 @@ fn rule_number(rule: Rule) -> u8
     }
 }
 
-// The number of the first rule that a layout breaks, 0 where it breaks none.
+// The number of the first rule that a layout breaks, 0 where it breaks none: the C interface has numbers.
 pub fn fault_lent(layout: &[u16; 5]) -> u8
     ensures { result ≡ fault_number (layout_fault (layout_of layout.now)) }
 {
-    match layout_of(*layout).fault() {
-        Fault::Unbroken => 0,
-        Fault::Broken(rule) => rule_number(rule),
-    }
+    Layout::from(*layout).fault().map_or(0, rule_number)
 }

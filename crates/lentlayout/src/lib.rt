@@ -4,4 +4,3 @@
 pub mod access;
 pub mod fault;
 pub mod laws;
-pub mod numbers;

@@ -1,8 +1,8 @@
 -- One page of a run's transcript on what a caller lends: the definition's page, of the transcript that the caller's numbers tell.
-use Rattle.std.specs.Prelude.{ℕ, ◌≡◌, List, eqb, length}
+use Rattle.base.specs.declared.refusal.Refusal.{Refusal}
+use Rattle.std.specs.Prelude.{ℕ, ◌≡◌, List, eqb, length, Result}
 use Rattle.std.proofs.lemmas.List.Edits.{sets}
 use Rattle.base.specs.Test.{when◌then◌else◌}
-use Rattle.base.specs.declared.verdict.Verdict.{Verdict}
 use Rattle.base.specs.Verdict.{verdict, refused_by}
 use Rattle.definition.specs.Setting.{setting_of}
 use Rattle.steplines.specs.declared.remaining.Remaining.{Remaining}
@@ -45,7 +45,7 @@ transcript_of budget lent =
     record { state = machine_of lent.machine; steps = lent.steps; budget = budget; remaining = stage_of lent.stage }
 
 -- whether its page is refused, by a caller's layout and stamps
-unfoldable pub page_verdict : List ℕ → List ℕ → ℕ → PageRoom → Verdict
+unfoldable pub page_verdict : List ℕ → List ℕ → ℕ → PageRoom → Result (Unit {0}) Refusal
 page_verdict layout stamps budget lent =
     let t = transcript_of budget lent in verdict (fill_tests (setting_of (layout_of layout) stamps) t lent.memory t.remaining)
 

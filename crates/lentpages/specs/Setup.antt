@@ -1,27 +1,25 @@
 -- What the sheet reader tells, and what it leaves in what it is lent.
-use Rattle.std.specs.Prelude.{ℕ, List, [], ◌≡◌}
+use Rattle.std.specs.Prelude.{ℕ, List, [], Ok, Err, ◌≡◌}
 use Rattle.std.proofs.lemmas.List.Edits.{sets}
 use Rattle.base.specs.Kept.{unless_refused}
-use Rattle.sheet.specs.declared.reader.Answer.{Answer}
-use Rattle.sheet.specs.declared.reader.Answer.TheVariants.{Read, Refused}
 use Rattle.loader.specs.Setup.{sheet_memory, sheet_stamps}
-use Rattle.sheet.specs.Sheet.{sheet_refusal, refused_line, sheet_answer}
+use Rattle.sheet.specs.Sheet.{Answer, sheet_refusal, refused_line, sheet_answer}
 use Rattle.lentlayout.specs.Layout.{layout_fields}
 
 -- the five addresses; none of a refusal
 abbrev pub set_layout : Answer → List ℕ
-set_layout (Read setup) = layout_fields setup.layout
-set_layout (Refused r line) = []
+set_layout (Ok setup) = layout_fields setup.layout
+set_layout (Err r) = []
 
 -- the count of stamps; none of a refusal
 abbrev pub set_count : Answer → ℕ
-set_count (Read setup) = setup.stamps
-set_count (Refused r line) = 0
+set_count (Ok setup) = setup.stamps
+set_count (Err r) = 0
 
 -- the budget; none of a refusal
 abbrev pub set_budget : Answer → ℕ
-set_budget (Read setup) = setup.budget
-set_budget (Refused r line) = 0
+set_budget (Ok setup) = setup.budget
+set_budget (Err r) = 0
 
 -- what is lent for a sheet's setup
 pub record SetupRoom : Type 0 where

@@ -3,23 +3,22 @@ ghost use Rattle.std.specs.Prelude.{◌≡◌};
 ghost use Rattle.lentstate.specs.State.{numbers};
 ghost use Rattle.lentpages.specs.Page.{stage_of, stage_number, page_room, TranscribeReturns};
 
-use base::verdict::Verdict;
-use lentlayout::numbers::layout_of;
+use layout::sections::Layout;
 use lentstate::state::{hand_back, machine_of};
 use steplines::remaining::Remaining;
 use transcribe::progress::Transcript;
 
-// What a stage's number says is still to be written: 0 the header and what follows it, 1 steps and the end, else nothing.
+// What a stage's number says is still to be written: 0 the header and what follows it, 1 steps and the end, else nothing. The C interface
+// has numbers; no `From`, which would stand in the crate of `Remaining`.
+#[tactic(auto, using(base::proofs::Tests::choices), unfolding(crate::specs::Page::stage_of))]
 fn stage_of(n: u8) -> Remaining
     ensures { result ≡ stage_of n }
 {
-    if n == 0 {
-        return Remaining::Header;
+    match n {
+        0 => Remaining::Header,
+        1 => Remaining::Steps,
+        _ => Remaining::Nothing,
     }
-    if n == 1 {
-        return Remaining::Steps;
-    }
-    Remaining::Nothing
 }
 
 // The number of what is still to be written.
@@ -55,21 +54,18 @@ pub fn transcribe_lent(
     let t = Transcript {
         state: machine_of(*registers, *saved, *control, *time),
         steps: *steps,
-        budget: budget,
+        budget,
         remaining: stage_of(*stage),
     };
-    let done = t.fill(mem, layout_of(*layout), stamps, out);
-    let next = done.transcript;
-    let verdict = done.verdict;
-    match verdict {
-        Verdict::Refused(refusal) => refusal.number(),
-        Verdict::Taken => {
-            let last = next.state;
-            let remaining = next.remaining;
-            hand_back(last, registers, saved, control, time);
-            *stage = stage_number(remaining);
+    let done = t.fill(mem, Layout::from(*layout), stamps, out);
+    match done.written {
+        Err(refusal) => u8::from(refusal),
+        Ok(count) => {
+            let next = done.transcript;
+            hand_back(next.state, registers, saved, control, time);
+            *stage = stage_number(next.remaining);
             *steps = next.steps;
-            *written = done.written as u64;
+            *written = count as u64;
             0
         }
     }

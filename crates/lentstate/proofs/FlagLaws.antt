@@ -1,18 +1,13 @@
 -- Numbers whose halted or held is neither 0 nor 1 are of no frame. Assumes nothing.
-use mathlib.Core.Path.{◌≡◌}
-use mathlib.Core.Bool.{true}
-use mathlib.Core.List.{List}
-use Prim.Native.Nat.{ℕ}
-use native.Mathlib.Omega.{arith}
-use lib.ListN.{get_or}
+use Rattle.std.proofs.Common.{◌≡◌, true, List, ℕ, arith, get_or}
 use Rattle.base.proofs.Tests.{never, when_true}
-use Rattle.definition.specs.declared.state.SavedContext.TheVariants.{Held}
+use Rattle.definition.specs.State.{held_visit}
 use Rattle.definition.proofs.frame.FrameLaws.{held_framed}
 use Rattle.lentstate.specs.State.{odd_flag, context_of, machine_of}
 use Rattle.lentstate.specs.Laws.{OddFlagUnframed}
 
 -- they are read as a visit of age 255
-odd_context : (fields : List ℕ) → odd_flag fields ≡ true → context_of fields ≡ Held (get_or fields 3 0) 255
+odd_context : (fields : List ℕ) → odd_flag fields ≡ true → context_of fields ≡ held_visit (get_or fields 3 0) 255
 unfolding context_of
 odd_context fields h = when_true _ _ _ h
 

@@ -1,7 +1,5 @@
 -- The machine of lent registers and what stands beside them, in the caller's numbers. Assumes nothing.
-use mathlib.Core.Path.{◌≡◌, ap}
-use mathlib.Core.List.{List}
-use Prim.Native.Nat.{ℕ}
+use Rattle.std.proofs.Common.{◌≡◌, ap, List, ℕ}
 use Rattle.storage.specs.declared.control.Control.{Control}
 use Rattle.storage.specs.Control.{with_registers}
 use Rattle.lentstate.specs.State.{time_fields, control_fields, numbers, machine_of, numbers_of}

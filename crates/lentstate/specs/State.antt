@@ -1,22 +1,20 @@
 -- The machine in the numbers that a caller lends, both ways.
-use Rattle.std.specs.Prelude.{ℕ, Bool, not, List, [], ◌∷◌, eqb, ltb, get_or}
+use Rattle.std.specs.Prelude.{ℕ, Bool, not, List, [], ◌∷◌, eqb, ltb, get_or, Option, None, Some}
 use Rattle.base.specs.Test.{when◌then◌else◌, any, bit_of}
 use Rattle.base.specs.Word.{byte_of}
-use Rattle.definition.specs.declared.state.Stamp.{Stamp}
-use Rattle.definition.specs.declared.state.Stamp.TheVariants.{Never, At}
+use Rattle.definition.specs.State.{held_visit}
 use Rattle.definition.specs.declared.state.Time.{Time}
 use Rattle.definition.specs.declared.state.SavedContext.{SavedContext}
-use Rattle.definition.specs.declared.state.SavedContext.TheVariants.{Unheld, Held}
 use Rattle.definition.specs.declared.state.State.{State}
 
 -- a stamp: 0 is none
-unfoldable pub stamp_of : ℕ → Stamp
-stamp_of n = when eqb n 0 then Never else At n
+unfoldable pub stamp_of : ℕ → Option ℕ
+stamp_of n = when eqb n 0 then None else Some n
 
 -- the number of a stamp: 0 is none
-abbrev pub stamp_number : Stamp → ℕ
-stamp_number Never = 0
-stamp_number (At s) = s
+abbrev pub stamp_number : Option ℕ → ℕ
+stamp_number None = 0
+stamp_number (Some s) = s
 
 -- the time of three numbers: clock, slot, alarm
 unfoldable pub time_of : List ℕ → Time
@@ -31,16 +29,16 @@ unfoldable pub odd_flag : List ℕ → Bool
 odd_flag fields = any (ltb 1 (get_or fields 1 0) ∷ ltb 1 (get_or fields 2 0) ∷ [])
 
 -- their visit; where a flag is odd, one of an age that no frame has
-unfoldable pub context_of : List ℕ → SavedContext
+unfoldable pub context_of : List ℕ → Option SavedContext
 context_of fields =
-    when odd_flag fields then Held (get_or fields 3 0) 255
-    else when eqb (get_or fields 2 0) 0 then Unheld
-    else Held (get_or fields 3 0) (byte_of (get_or fields 4 0))
+    when odd_flag fields then held_visit (get_or fields 3 0) 255
+    else when eqb (get_or fields 2 0) 0 then None
+    else held_visit (get_or fields 3 0) (byte_of (get_or fields 4 0))
 
 -- the five numbers of a previous address, halted and the visit
-abbrev pub control_fields : ℕ → Bool → SavedContext → List ℕ
-control_fields previous halted Unheld = previous ∷ bit_of halted ∷ 0 ∷ 0 ∷ 0 ∷ []
-control_fields previous halted (Held held_previous age) = previous ∷ bit_of halted ∷ 1 ∷ held_previous ∷ age ∷ []
+abbrev pub control_fields : ℕ → Bool → Option SavedContext → List ℕ
+control_fields previous halted None = previous ∷ bit_of halted ∷ 0 ∷ 0 ∷ 0 ∷ []
+control_fields previous halted (Some visit) = previous ∷ bit_of halted ∷ 1 ∷ visit.previous ∷ visit.age ∷ []
 
 -- a machine in the numbers that a caller lends
 pub record Numbers : Type 0 where

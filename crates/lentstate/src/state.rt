@@ -1,53 +1,54 @@
-// The machine as numbers that a caller lends.
+// The machine as numbers that a caller lends. Functions and no `From`: of a stamp, a time or a visit neither side is a type of this crate.
 ghost use Rattle.std.specs.Prelude.{◌≡◌};
 ghost use Rattle.lentstate.specs.State.{stamp_of, stamp_number, time_of, time_fields, odd_flag, context_of, control_fields, numbers, machine_of, numbers_of};
 ghost use Rattle.lentstate.specs.internal.Control.{control_from};
 
 use base::word::byte_of;
-use definition::state::{SavedContext, Stamp, State, Time};
+use definition::state::{SavedContext, State, Time};
 use storage::control::Control;
 
-// A stamp: 0 is none.
-fn stamp_of(n: u64) -> Stamp
+// A stamp: 0 is none, in the numbers of the C interface.
+#[tactic(auto, using(base::proofs::Tests::choices), unfolding(crate::specs::State::stamp_of))]
+fn stamp_of(n: u64) -> Option<u64>
     ensures { result ≡ stamp_of n }
 {
-    if n == 0 {
-        return Stamp::Never;
-    }
-    Stamp::At(n)
+    (n != 0).then_some(n)
 }
 
 // The number of a stamp: 0 is none.
-fn stamp_number(stamp: Stamp) -> u64
+fn stamp_number(stamp: Option<u64>) -> u64
     ensures { result ≡ stamp_number stamp }
 {
-    match stamp {
-        Stamp::Never => 0,
-        Stamp::At(s) => s,
-    }
+    stamp.unwrap_or(0)
 }
 
 // The time: clock, slot, alarm.
+#[tactic(auto, unfolding(crate::specs::State::time_of))]
 fn time_of(fields: [u64; 3]) -> Time
     ensures { result ≡ time_of fields }
 {
+    let [clock, slot, alarm] = fields;
     Time {
-        clock: fields[0],
-        slot: stamp_of(fields[1]),
-        alarm: stamp_of(fields[2]),
+        clock,
+        slot: stamp_of(slot),
+        alarm: stamp_of(alarm),
     }
 }
 
 // The three numbers of the time.
+#[tactic(auto, unfolding(crate::specs::State::time_fields))]
 fn time_fields(time: Time) -> [u64; 3]
     ensures { result ≡ time_fields time }
 {
-    let slot = time.slot;
-    let alarm = time.alarm;
-    [time.clock, stamp_number(slot), stamp_number(alarm)]
+    [
+        time.clock,
+        stamp_number(time.slot),
+        stamp_number(time.alarm),
+    ]
 }
 
 // `halted` or `held` is neither 0 nor 1.
+#[tactic(auto, unfolding(crate::specs::State::odd_flag, base::specs::Test::any))]
 fn has_odd_flag(fields: [u16; 5]) -> bool
     ensures { result ≡ odd_flag fields }
 {
@@ -55,34 +56,38 @@ fn has_odd_flag(fields: [u16; 5]) -> bool
 }
 
 // The visit; where a flag is odd, one of no frame.
-fn context_of(fields: [u16; 5]) -> SavedContext
+#[tactic(auto, using(base::proofs::Tests::choices), unfolding(crate::specs::State::context_of))]
+fn context_of(fields: [u16; 5]) -> Option<SavedContext>
     ensures { result ≡ context_of fields }
 {
     if has_odd_flag(fields) {
-        return SavedContext::Held {
+        return Some(SavedContext {
             previous: fields[3],
             age: 255,
-        };
+        });
     }
     if fields[2] == 0 {
-        return SavedContext::Unheld;
+        return None;
     }
-    SavedContext::Held {
+    Some(SavedContext {
         previous: fields[3],
         age: byte_of(fields[4]),
-    }
+    })
 }
 
 // Previous address, halted, held, held previous address, held age.
-fn control_fields(previous: u16, halted: bool, context: SavedContext) -> [u16; 5]
+fn control_fields(previous: u16, halted: bool, context: Option<SavedContext>) -> [u16; 5]
     ensures { result ≡ control_fields previous halted context }
 {
     match context {
-        SavedContext::Unheld => [previous, halted as u16, 0, 0, 0],
-        SavedContext::Held {
-            previous: held,
-            age,
-        } => [previous, halted as u16, 1, held, age as u16],
+        None => [previous, u16::from(halted), 0, 0, 0],
+        Some(held) => [
+            previous,
+            u16::from(halted),
+            1,
+            held.previous,
+            u16::from(held.age),
+        ],
     }
 }
 
@@ -99,6 +104,7 @@ pub fn control_of(fields: [u16; 5], time: [u64; 3]) -> Control
 }
 
 // The machine of a caller's numbers.
+#[tactic(auto, unfolding(crate::specs::State::machine_of))]
 pub fn machine_of(
     registers: [u16; 16],
     saved: [u16; 16],
@@ -115,13 +121,12 @@ pub fn hand_control(rest: Control, control: &mut [u16; 5], time: &mut [u64; 3])
     ensures control_after { control.new ≡ control_fields rest.previous rest.halted rest.context }
     ensures time_after { time.new ≡ time_fields rest.time }
 {
-    let context = rest.context;
-    let t = rest.time;
-    *control = control_fields(rest.previous, rest.halted, context);
-    *time = time_fields(t);
+    *control = control_fields(rest.previous, rest.halted, rest.context);
+    *time = time_fields(rest.time);
 }
 
 // Hands a machine back in the caller's numbers.
+#[tactic(auto, unfolding(crate::specs::State::numbers_of))]
 pub fn hand_back(
     m: State,
     registers: &mut [u16; 16],

@@ -1,10 +1,8 @@
 -- Rows by their indices, and instructions by their four numbers. Assumes nothing.
-use mathlib.Core.Path.{◌≡◌, refl, sym, ◌∙◌, ap}
-use mathlib.Core.Bool.{true, false}
-use Prim.Native.Nat.{ℕ, ◌<◌}
-use native.Mathlib.Omega.{arith}
-use lib.Dec.{ltb}
-use borrow.Author.Tests.{ltb-true}
+use Rattle.std.proofs.Common.{◌≡◌, refl, sym, ◌∙◌, ap, true, false, ℕ, ◌<◌, arith, ltb, Bor, Option, option_copied, None, Some, Err}
+use Rattle.std.proofs.lemmas.Option.{slice_get-get_or, slice_get_read}
+use Rattle.std.proofs.lemmas.Bool.{ltb-true}
+use Rattle.std.specs.Slice.{IsItemAt}
 use Rattle.base.specs.Test.{when◌then◌else◌}
 use Rattle.base.specs.declared.refusal.Refusal.TheVariants.{Word}
 use Rattle.base.proofs.Tests.{cases, each, never, when_true, when_false}
@@ -12,23 +10,17 @@ use Rattle.rows.specs.declared.row.Operation.TheVariants.{Add, Sub, Cmp, And}
 use Rattle.rows.specs.declared.row.Row.{Row}
 use Rattle.rows.specs.declared.row.Row.TheVariants.{Hlt as HLT, In as IN, Out as OUT, Jz as JZ, Reti as RETI, Nop as NOP, Jmp as JMP, Mov as MOV, Load as LOAD, Store as STORE, Immediate as IMMEDIATE, Compute as COMPUTE, Not as NOT}
 use Rattle.rows.specs.declared.row.Encoding.{Encoding}
-use Rattle.rows.specs.declared.write.Writing.TheVariants.{Refused as Unwritten}
+use Rattle.rows.specs.Table.{rows}
 use Rattle.rows.specs.Words.{encodable, written}
 use Rattle.isa.specs.declared.instruction.Operand.TheVariants.{Register, Pointed, Constant}
 use Rattle.isa.specs.declared.instruction.Instruction.{Instruction}
 use Rattle.isa.specs.declared.instruction.Instruction.TheVariants.{Hlt, In, Out, Jz, Reti, Nop, Jmp, Mov, Store, Compute, Not}
-use Rattle.rows.specs.declared.row.Row.{Row}
-use Rattle.rows.specs.declared.row.Row.TheVariants.{Hlt as HLT, In as IN, Out as OUT, Jz as JZ, Reti as RETI, Nop as NOP, Jmp as JMP, Mov as MOV, Load as LOAD, Store as STORE, Immediate as IMMEDIATE, Compute as COMPUTE, Not as NOT}
-use Rattle.rows.specs.declared.row.Encoding.{Encoding}
-use Rattle.rows.specs.declared.write.Writing.TheVariants.{Refused as Unwritten}
 use Rattle.isa.specs.Encoding.{instruction_of, encoding_of}
-use Rattle.rows.specs.Words.{encodable, written}
-use Rattle.lentwords.specs.declared.fields.Numbered.TheVariants.{Present}
 use Rattle.base.specs.Word.{byte_of}
 use Rattle.lentwords.specs.Fields.{row_at, row_index, fields_of, writing_of}
 use Rattle.lentwords.specs.Laws.{RowAtIndex, FieldsWritten}
 
-row_at_lem : (r : Row) → row_at (row_index r) ≡ Present r
+row_at_lem : (r : Row) → row_at (row_index r) ≡ Some r
 unfolding row_at when◌then◌else◌
 row_at_lem HLT = refl
 row_at_lem IN = refl
@@ -46,6 +38,15 @@ row_at_lem (COMPUTE Sub) = refl
 row_at_lem (COMPUTE Cmp) = refl
 row_at_lem (COMPUTE And) = refl
 row_at_lem NOT = refl
+
+-- the row at an index, as `get` and `copied` find it in the list
+pub copied_row : (n : ℕ) (r : Option (Bor Row)) → IsItemAt rows n r → option_copied r ≡ row_at n
+unfolding row_at
+copied_row n None h = sym (when_false _ _ _ (sym h.0))
+copied_row n (Some x) h =
+    let t = sym h.0 in
+    sym (slice_get_read rows 16 n x.now refl (ltb-true n 16 t) h.1)
+    ∙ slice_get-get_or rows n HLT (ltb-true n 16 t) ∙ sym (when_true _ _ _ t)
 
 pub row_at_index : RowAtIndex
 unfolding RowAtIndex
@@ -93,14 +94,14 @@ module _ (e : Encoding) where
   unfolding encodable
   digits h = let t = each _ h in (ltb-true _ _ t.0, ltb-true _ _ t.1.0)
 
-  no_words : (encodable e ≡ true → ⊥) → written e ≡ Unwritten Word
+  no_words : (encodable e ≡ true → ⊥) → written e ≡ Err Word
   unfolding written
   no_words h = when_false _ _ _ (never _ h)
 
-  no_source : (e.source < 16 → ⊥) → written e ≡ Unwritten Word
+  no_source : (e.source < 16 → ⊥) → written e ≡ Err Word
   no_source h = no_words (λ f. h (digits f).0)
 
-  no_destination : (e.destination < 16 → ⊥) → written e ≡ Unwritten Word
+  no_destination : (e.destination < 16 → ⊥) → written e ≡ Err Word
   no_destination h = no_words (λ f. h (digits f).1)
 
 -- so in 8 bits it is written alike

@@ -1,25 +1,23 @@
 -- One instruction in four numbers: its index among the rows of document 01's table, source, destination, constant.
-use Rattle.std.specs.Prelude.{ℕ, List, [], ◌∷◌, ltb, get_or}
+use Rattle.std.specs.Prelude.{ℕ, List, [], ◌∷◌, ltb, get_or, Option, None, Some, Result, Err}
 use Rattle.base.specs.Test.{when◌then◌else◌}
+use Rattle.base.specs.declared.refusal.Refusal.{Refusal}
 use Rattle.base.specs.declared.refusal.Refusal.TheVariants.{Word}
 use Rattle.rows.specs.declared.row.Operation.{Operation}
 use Rattle.rows.specs.declared.row.Operation.TheVariants.{Add, Sub, Cmp, And}
 use Rattle.rows.specs.declared.row.Row.{Row}
 use Rattle.rows.specs.declared.row.Row.TheVariants.{Hlt as HLT, In as IN, Out as OUT, Jz as JZ, Reti as RETI, Nop as NOP, Jmp as JMP, Mov as MOV, Load as LOAD, Store as STORE, Immediate as IMMEDIATE, Compute as COMPUTE, Not as NOT}
 use Rattle.rows.specs.declared.row.Encoding.{Encoding}
-use Rattle.rows.specs.declared.write.Writing.{Writing}
-use Rattle.rows.specs.declared.write.Writing.TheVariants.{Refused as Unwritten}
+use Rattle.rows.specs.declared.write.Words.{Words}
 use Rattle.rows.specs.Table.{rows}
 use Rattle.isa.specs.declared.instruction.Instruction.{Instruction}
 use Rattle.isa.specs.Encoding.{instruction_of, encoding_of}
 use Rattle.isa.specs.Words.{writing}
-use Rattle.lentwords.specs.declared.fields.Numbered.{Numbered}
-use Rattle.lentwords.specs.declared.fields.Numbered.TheVariants.{Present, Absent}
 use Rattle.base.specs.Word.{byte_of}
 
 -- the row at an index of document 01's list, from 0; there are sixteen
-unfoldable pub row_at : ℕ → Numbered
-row_at n = when ltb n 16 then Present (get_or rows n HLT) else Absent
+unfoldable pub row_at : ℕ → Option Row
+row_at n = when ltb n 16 then Some (get_or rows n HLT) else None
 
 -- the index of an operation's row
 abbrev pub operation_index : Operation → ℕ
@@ -53,10 +51,10 @@ unfoldable pub fields_of : Instruction → List ℕ
 fields_of i = encoding_fields (encoding_of i)
 
 -- the words of what stands at an index, with two registers and a constant; where no row stands there, refusal 9
-abbrev pub writing_at : Numbered → ℕ → ℕ → ℕ → Writing
-writing_at Absent s d w = Unwritten Word
-writing_at (Present row) s d w = writing (instruction_of row s d w)
+abbrev pub writing_at : Option Row → ℕ → ℕ → ℕ → Result Words Refusal
+writing_at None s d w = Err Word
+writing_at (Some row) s d w = writing (instruction_of row s d w)
 
 -- the words of four numbers, or refusal 9
-unfoldable pub writing_of : List ℕ → Writing
+unfoldable pub writing_of : List ℕ → Result Words Refusal
 writing_of fields = writing_at (row_at (get_or fields 0 0)) (byte_of (get_or fields 1 0)) (byte_of (get_or fields 2 0)) (get_or fields 3 0)

@@ -1,20 +1,12 @@
 // One instruction as four numbers: its row in the table of instruction words, source, destination, constant.
 ghost use Rattle.std.specs.Prelude.{◌≡◌};
-ghost use Rattle.lentwords.specs.Fields.{row_at, operation_index, row_index, fields_of, writing_of};
+ghost use Rattle.lentwords.specs.Fields.{row_at, row_index, fields_of, writing_of};
 
 use base::refusal::Refusal;
 use base::word::byte_of;
-use isa::encoding::{encoding_of, instruction_of};
 use isa::instruction::Instruction;
-use rows::row::{Operation, Row};
-use rows::write::Writing;
-
-// A row, or none.
-#[derive(Clone, Copy)]
-enum Numbered {
-    Present(Row),
-    Absent,
-}
+use rows::row::{Encoding, Operation, Row};
+use rows::write::Words;
 
 // The rows in document 01's order.
 const ROWS: [Row; 16] = [
@@ -37,29 +29,13 @@ const ROWS: [Row; 16] = [
 ];
 
 // The row at an index of the table, from 0.
-fn row_at(n: u16) -> Numbered
+fn row_at(n: u16) -> Option<Row>
     ensures { result ≡ row_at n }
 {
-    let i = n as usize;
-    if i < 16 {
-        return Numbered::Present(ROWS[i]);
-    }
-    Numbered::Absent
+    ROWS.get(n as usize).copied()
 }
 
-// The index of an operation's row.
-fn operation_index(o: Operation) -> u16
-    ensures { result ≡ operation_index o }
-{
-    match o {
-        Operation::Add => 11,
-        Operation::Sub => 12,
-        Operation::Cmp => 13,
-        Operation::And => 14,
-    }
-}
-
-// The index of a row.
+// The index of a row, a number of the C interface. `Row` and `u16` are of other crates, so it is no `From`.
 fn row_index(row: Row) -> u16
     ensures { result ≡ row_index row }
 {
@@ -75,19 +51,22 @@ fn row_index(row: Row) -> u16
         Row::Load => 8,
         Row::Store => 9,
         Row::Immediate => 10,
-        Row::Compute(o) => operation_index(o),
+        Row::Compute(Operation::Add) => 11,
+        Row::Compute(Operation::Sub) => 12,
+        Row::Compute(Operation::Cmp) => 13,
+        Row::Compute(Operation::And) => 14,
         Row::Not => 15,
     }
 }
 
 // The four numbers of an instruction.
+#[tactic(auto, unfolding(crate::specs::Fields::fields_of))]
 pub fn fields_of(i: Instruction) -> [u16; 4]
     ensures { result ≡ fields_of i }
 {
-    let e = encoding_of(i);
-    let row = e.row;
+    let e = Encoding::from(i);
     [
-        row_index(row),
+        row_index(e.row),
         e.source as u16,
         e.destination as u16,
         e.word,
@@ -95,15 +74,16 @@ pub fn fields_of(i: Instruction) -> [u16; 4]
 }
 
 // The words of four numbers, or refusal 9.
-pub fn write_fields(fields: [u16; 4]) -> Writing
+#[tactic(auto, unfolding(crate::specs::Fields::writing_of))]
+pub fn write_fields(fields: [u16; 4]) -> Result<Words, Refusal>
     ensures { result ≡ writing_of fields }
 {
-    match row_at(fields[0]) {
-        Numbered::Absent => Writing::Refused(Refusal::Word),
-        Numbered::Present(row) => {
-            let s = byte_of(fields[1]);
-            let d = byte_of(fields[2]);
-            instruction_of(row, s, d, fields[3]).write()
-        }
-    }
+    let row = row_at(fields[0]).ok_or(Refusal::Word)?;
+    let encoding = Encoding {
+        row,
+        source: byte_of(fields[1]),
+        destination: byte_of(fields[2]),
+        word: fields[3],
+    };
+    Instruction::from(encoding).write()
 }
