@@ -1,11 +1,10 @@
 // The bench program: a sheet from standard input, its transcript to standard output. It only reads, calls and writes.
 #![tactic(auto)]
 
-mod input;
 mod pages;
-mod writer;
 
 use base::limits::{MEMORY_BYTES, MOST_SHEET_BYTES, MOST_STAMPS};
+use console::input::read_full;
 use explain::sentence::explanation;
 use output::open::open_sheet;
 use std::io;
@@ -22,18 +21,18 @@ const PAGE_BYTES: usize = 65536;
 // The status of a process that a closed pipe ended, as shells count it: 128 and the signal's number.
 const READER_GONE: u8 = 128 + 13;
 
+// Says a sentence. Where that fails, there is nobody to be told.
+fn complain(errors: &mut impl Write, text: &[u8]) {
+    let _ = errors.write_all(text);
+}
+
 // On standard error what is wrong with a sheet, where it is refused.
 fn explain_refusal(errors: &mut impl Write, page: &mut [u8], text: &[u8], remaining: Remaining) {
-    match remaining {
-        Remaining::RefusalLine(refusal, line) => {
-            let n = explanation(page, text, refusal, line);
-            if n <= page.len() {
-                writer::complain(errors, &page[0..n]);
-            }
+    if let Remaining::RefusalLine(refusal, line) = remaining {
+        let n = explanation(page, text, refusal, line);
+        if let Some(sentence) = page.get(..n) {
+            complain(errors, sentence);
         }
-        Remaining::Header => {}
-        Remaining::Steps => {}
-        Remaining::Nothing => {}
     }
 }
 
@@ -42,7 +41,7 @@ fn unwritten(errors: &mut impl Write, why: io::Error) -> ExitCode {
     if why.kind() == ErrorKind::BrokenPipe {
         return ExitCode::from(READER_GONE);
     }
-    writer::complain(errors, b"bench: standard output cannot be written\n");
+    complain(errors, b"bench: standard output cannot be written\n");
     ExitCode::SUCCESS
 }
 
@@ -54,30 +53,26 @@ fn main(rt: HostRuntime) -> ExitCode {
     let mut stamps = [0u64; MOST_STAMPS];
     let mut out = io::writer(&rt);
     let mut errors = rt.stderr();
-    let Ok(n) = input::read(&rt, &mut sheet) else {
-        writer::complain(&mut errors, b"bench: standard input cannot be read\n");
+    let Ok(n) = read_full(&mut rt.reader(), &mut sheet) else {
+        complain(&mut errors, b"bench: standard input cannot be read\n");
         return ExitCode::SUCCESS;
     };
     let text: &[u8] = &sheet[..n];
     let opened = open_sheet(text, &mut mem, &mut stamps);
-    let transcript = opened.transcript;
-    let layout = opened.layout;
-    let count = opened.count;
-    if count > MOST_STAMPS {
+    let Some(stamps) = stamps.get(..opened.count) else {
         return ExitCode::SUCCESS;
-    }
-    let remaining = transcript.remaining;
+    };
     let written = pages::write_pages(
         &mut out,
-        transcript,
+        opened.transcript,
         &mut mem,
-        layout,
-        &stamps[0..count],
+        opened.layout,
+        stamps,
         &mut page,
     );
     if let Err(why) = written {
         return unwritten(&mut errors, why);
     }
-    explain_refusal(&mut errors, &mut page, text, remaining);
+    explain_refusal(&mut errors, &mut page, text, opened.transcript.remaining);
     ExitCode::SUCCESS
 }

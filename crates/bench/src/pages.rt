@@ -1,5 +1,4 @@
 // A transcript, filled and written page by page.
-use crate::writer;
 use base::limits::MOST_BUDGET;
 use layout::sections::Layout;
 use std::io;
@@ -21,13 +20,11 @@ pub fn write_pages(
     let mut current = transcript;
     for _ in 0..MOST_PAGES {
         let filled = current.fill(mem, layout, stamps, page);
-        let n = filled.written;
-        if n == 0 {
-            return Ok(());
+        match filled.written {
+            Err(_) | Ok(0) => return Ok(()),
+            Ok(count) => out.write_all(&page[..count])?,
         }
-        writer::write(out, &page[0..n])?;
-        let next = filled.transcript;
-        current = next;
+        current = filled.transcript;
     }
     Ok(())
 }

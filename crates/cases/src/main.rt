@@ -35,9 +35,7 @@ use std::io;
 // The script is read whole and obeyed line by line.
 fn main(rt: HostRuntime) -> io::Result<()> {
     let mut script = [0u8; 131072];
-    let mut mem = [0u8; 65538];
-    let mut times = [0u64; 4100];
     let mut out = io::writer(&rt);
     let n = read_whole(&rt, &mut out, &mut script)?;
-    play::play(&mut out, &script[..n], &mut mem, &mut times)
+    play::play(&mut out, &script[..n])
 }

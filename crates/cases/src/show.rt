@@ -1,7 +1,8 @@
 // The state of the machine on a line.
 use console::print;
-use definition::state::{SavedContext, Stamp, State, Time};
+use definition::state::SavedContext;
 use script::memory;
+use script::world::World;
 use std::io;
 use std::io::Write;
 
@@ -14,70 +15,52 @@ fn registers(out: &mut impl Write, words: [u16; 16]) -> io::Result<()> {
 }
 
 // A clock value, or none.
-fn stamp(out: &mut impl Write, s: Stamp) -> io::Result<()> {
+fn stamp(out: &mut impl Write, s: Option<u64>) -> io::Result<()> {
     match s {
-        Stamp::Never => print::text(out, b" none"),
-        Stamp::At(n) => print::space_decimal(out, n),
+        None => print::text(out, b" none"),
+        Some(n) => print::space_decimal(out, n),
     }
 }
 
-// The slot and the alarm.
-fn slot_and_alarm(out: &mut impl Write, t: Time) -> io::Result<()> {
-    let slot = t.slot;
-    let alarm = t.alarm;
-    print::text(out, b" slot")?;
-    stamp(out, slot)?;
-    print::text(out, b" alarm")?;
-    stamp(out, alarm)
-}
-
-// A held visit: its previous address, its age, its registers.
-fn held(out: &mut impl Write, previous: u16, age: u8, saved: [u16; 16]) -> io::Result<()> {
-    print::text(out, b" held")?;
-    print::space_word(out, previous)?;
-    print::space_decimal(out, age as u64)?;
-    registers(out, saved)
-}
-
-// The saved copy is shown where a visit is held: elsewhere it means nothing.
-fn context(out: &mut impl Write, v: SavedContext, saved: [u16; 16]) -> io::Result<()> {
+// A held visit has its previous address, its age, its registers. The saved copy means nothing where none is held.
+fn context(out: &mut impl Write, v: Option<SavedContext>, saved: [u16; 16]) -> io::Result<()> {
     match v {
-        SavedContext::Unheld => print::text(out, b" free"),
-        SavedContext::Held { previous, age } => held(out, previous, age, saved),
+        None => print::text(out, b" free"),
+        Some(SavedContext { previous, age }) => {
+            print::text(out, b" held")?;
+            print::space_word(out, previous)?;
+            print::space_decimal(out, u64::from(age))?;
+            registers(out, saved)
+        }
     }
-}
-
-// A word where the machine is halted.
-fn halted(out: &mut impl Write, is: bool) -> io::Result<()> {
-    if is {
-        return print::text(out, b" halted");
-    }
-    Ok(())
 }
 
 // The end of the line: the sums of all bytes.
 pub fn sums(out: &mut impl Write, mem: &[u8]) -> io::Result<()> {
-    let s = memory::sums(mem);
+    let sums = memory::sums(mem);
     print::text(out, b" sums")?;
-    print::space_hex(out, s.bytes)?;
-    print::space_hex(out, s.places)?;
+    print::space_hex(out, sums.bytes)?;
+    print::space_hex(out, sums.places)?;
     print::end_line(out)
 }
 
 // The rest of the line: the state and the memory's sums.
-pub fn state(out: &mut impl Write, m: State, mem: &[u8]) -> io::Result<()> {
-    let words = m.registers;
-    let saved = m.saved;
-    let time = m.time;
-    let v = m.context;
+pub fn state(out: &mut impl Write, w: &World) -> io::Result<()> {
+    let state = w.state;
+    let time = state.time;
     print::text(out, b" clock")?;
     print::space_decimal(out, time.clock)?;
     print::text(out, b" registers")?;
-    registers(out, words)?;
+    registers(out, state.registers)?;
     print::text(out, b" previous")?;
-    print::space_word(out, m.previous)?;
-    slot_and_alarm(out, time)?;
-    context(out, v, saved)?;
-    halted(out, m.halted)?;
-    sums(out, mem)
+    print::space_word(out, state.previous)?;
+    print::text(out, b" slot")?;
+    stamp(out, time.slot)?;
+    print::text(out, b" alarm")?;
+    stamp(out, time.alarm)?;
+    context(out, state.context, state.saved)?;
+    if state.halted {
+        print::text(out, b" halted")?;
+    }
+    sums(out, &w.memory)
 }

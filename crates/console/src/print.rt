@@ -63,14 +63,12 @@ pub fn space_decimal<W: Write>(out: &mut W, n: u64) -> io::Result<()>
 pub fn space_letter<W: Write>(out: &mut W, letter: u8) -> io::Result<()>
     ensures { OnOk result (Appends (W.contents out.old) (W.contents out.new) (32 ∷ letter ∷ [])) }
 {
-    let field = [b' ', letter];
-    text(out, &field)
+    text(out, &[b' ', letter])
 }
 
 // A refusal: E and its number.
 pub fn refusal<W: Write>(out: &mut W, number: u8) -> io::Result<()>
     ensures { OnOk result (Appends (W.contents out.old) (W.contents out.new) (codes " E " ++ decimal number)) }
 {
-    text(out, b" E")?;
-    space_decimal(out, u64::from(number))
+    write!(out, " E {number}")
 }

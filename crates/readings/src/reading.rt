@@ -1,10 +1,10 @@
 // A sheet's reading: its refusal, or how its run ends.
-use answers::answer::RunAnswer;
+use answers::answer::Stopped;
 use base::limits::MEMORY_BYTES;
 use console::print;
 use loader::load::{load_memory, load_stamps};
 use machine::calls::Machine;
-use sheet::reader::{Answer, Setup, read_sheet};
+use sheet::reader::{Setup, read_sheet};
 use std::io;
 use std::io::Write;
 use text::text::{head, rest};
@@ -24,8 +24,8 @@ fn run_line(out: &mut [u8], setup: Setup, mem: &mut [u8], stamps: &[u64]) -> usi
     let next = ran.machine.0;
     let answer = ran.answer;
     match answer {
-        RunAnswer::Done(end, steps) => end_line(out, end, steps, next.time.clock),
-        RunAnswer::Refused(refusal) => refusal_line(out, refusal, 0),
+        Ok(Stopped { end, steps }) => end_line(out, end, steps, next.time.clock),
+        Err(refusal) => refusal_line(out, refusal, 0),
     }
 }
 
@@ -37,8 +37,8 @@ fn last_line(
     stamps: &mut [u64],
 ) -> usize {
     match read_sheet(text) {
-        Answer::Refused(refusal, line) => refusal_line(out, refusal, line),
-        Answer::Read(setup) => {
+        Err(refused) => refusal_line(out, refused.refusal, refused.line),
+        Ok(setup) => {
             load_memory(mem, text);
             load_stamps(stamps, text);
             run_line(out, setup, mem, stamps)
@@ -64,7 +64,7 @@ fn one(
     Ok(())
 }
 
-// Every sheet.
+// Every sheet. By `head` and `rest`, and not by `split` and two calls of `next`: those are no plainer, and leave out a last name alone.
 pub fn all(
     out: &mut impl Write,
     text: &[u8],

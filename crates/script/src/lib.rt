@@ -1,9 +1,7 @@
-// The script of the worked cases: what a line says, whether it can be obeyed, and the world that the lines make for a call.
+// The script of the worked cases: what a line says, which command that is, and the world that the commands make for a call.
 #![tactic(auto)]
 
+pub mod command;
 pub mod line;
 pub mod memory;
-pub mod rules;
-pub mod stamps;
-pub mod words;
 pub mod world;

@@ -1,17 +1,27 @@
-// What a call is given: the machine, the layout, how many bytes of the memory and how many stamps.
-use crate::line::Line;
-use crate::words::{byte, word};
+// What a call is given: the machine, the layout, the bytes of the memory and the stamps.
+ghost use Rattle.std.specs.Prelude.{◌≡◌, ◌+◌, length, IfSome};
+
+use crate::command::Part;
+use crate::memory;
 use base::limits::MEMORY_BYTES;
-use definition::state::{SavedContext, Stamp, State, Time};
-use layout::sections::{Layout, Span};
+use definition::state::{SavedContext, State, Time};
+use layout::sections::Layout;
 use storage::registers::set_register;
 
-// The world of a call. The bytes and the stamps themselves stand in buffers beside it.
-#[derive(Clone, Copy)]
+// Two bytes more than a memory has, so that a call can be lent too many.
+pub const WORLD_BYTES: usize = 65538;
+
+// Four stamps more than a timetable has.
+const WORLD_STAMPS: usize = 4100;
+
+// The world of a call, which is lent the first of the bytes and of the stamps.
+#[derive(Drop)]
 pub struct World {
     pub state: State,
     pub layout: Layout,
+    pub memory: [u8; WORLD_BYTES],
     pub bytes: usize,
+    pub times: [u64; WORLD_STAMPS],
     pub stamps: usize,
 }
 
@@ -22,116 +32,76 @@ fn zero_state() -> State {
         previous: 0xfffe,
         time: Time {
             clock: 0,
-            slot: Stamp::Never,
-            alarm: Stamp::Never,
+            slot: None,
+            alarm: None,
         },
-        context: SavedContext::Unheld,
+        context: None,
         saved: [0; 16],
         halted: false,
     }
 }
 
-// The layout of the five first fields.
-pub fn layout_of(fields: [u64; 8]) -> Layout {
-    Layout {
-        code: Span {
-            start: word(fields[0]),
-            end: word(fields[1]),
-        },
-        data: Span {
-            start: word(fields[2]),
-            end: word(fields[3]),
-        },
-        service: word(fields[4]),
+impl World {
+    // A new world: no byte but 0 in memory, the layout of document 01's sheet, no stamps.
+    pub fn new() -> World {
+        World {
+            state: zero_state(),
+            layout: Layout::from([0x8000, 0x8008, 0x8100, 0x8104, 0x4500]),
+            memory: [0; WORLD_BYTES],
+            bytes: MEMORY_BYTES,
+            times: [0; WORLD_STAMPS],
+            stamps: 0,
+        }
     }
-}
 
-// A new world, with the layout of document 01's sheet.
-pub fn new_world() -> World {
-    World {
-        state: zero_state(),
-        layout: layout_of([0x8000, 0x8008, 0x8100, 0x8104, 0x4500, 0, 0, 0]),
-        bytes: MEMORY_BYTES,
-        stamps: 0,
+    // A part of the state overwritten.
+    pub fn overwrite(&mut self, part: Part) {
+        let state = &mut self.state;
+        match part {
+            Part::Register(n, w) => state.registers = set_register(state.registers, n, w),
+            Part::Saved(n, w) => state.saved = set_register(state.saved, n, w),
+            Part::Previous(a) => state.previous = a,
+            Part::Clock(n) => state.time.clock = n,
+            Part::Slot(s) => state.time.slot = s,
+            Part::Alarm(s) => state.time.alarm = s,
+            Part::Held { previous, age } => {
+                // The held visit's registers are 0 but for GIE.
+                state.context = Some(SavedContext { previous, age });
+                state.saved = set_register([0; 16], 2, 8);
+            }
+            Part::Unheld => state.context = None,
+            Part::Halted(halted) => state.halted = halted,
+        }
     }
-}
 
-// The machine with another time.
-fn with_time(m: State, t: Time) -> State {
-    State { time: t, ..m }
-}
-
-// The machine with another slot.
-fn with_slot(m: State, s: Stamp) -> State {
-    let t = m.time;
-    with_time(m, Time { slot: s, ..t })
-}
-
-// The machine with another alarm.
-fn with_alarm(m: State, s: Stamp) -> State {
-    let t = m.time;
-    with_time(m, Time { alarm: s, ..t })
-}
-
-// The machine with another clock.
-fn with_clock(m: State, n: u64) -> State {
-    let t = m.time;
-    with_time(m, Time { clock: n, ..t })
-}
-
-// The machine with one register set.
-fn with_register(m: State, n: u64, w: u64) -> State {
-    let old = m.registers;
-    let next = set_register(old, byte(n), word(w));
-    State {
-        registers: next,
-        ..m
+    // Words in memory, from an address on.
+    pub fn put_words(&mut self, address: u16, words: &[u64]) {
+        memory::put_words(&mut self.memory, address, words);
     }
-}
 
-// The machine with one register of the saved copy set.
-fn with_saved(m: State, n: u64, w: u64) -> State {
-    let old = m.saved;
-    let next = set_register(old, byte(n), word(w));
-    State { saved: next, ..m }
-}
-
-// A visit is held, its registers 0 but for GIE.
-fn with_held(m: State, previous: u64, age: u64) -> State {
-    let registers = set_register([0; 16], 2, 8);
-    State {
-        context: SavedContext::Held {
-            previous: word(previous),
-            age: byte(age),
-        },
-        saved: registers,
-        ..m
+    // Stamps behind the last; none where there is no room for all of them.
+    pub fn put_stamps(&mut self, stamps: &[u64]) -> Option<()>
+        ensures { IfSome result (λ _. self.new.stamps ≡ self.old.stamps + length stamps.now) }
+    {
+        let end = self.stamps.checked_add(stamps.len())?;
+        self.times
+            .get_mut(self.stamps..end)?
+            .copy_from_slice(stamps);
+        self.stamps = end;
+        Some(())
     }
-}
 
-// The machine with the part that the line names overwritten.
-pub fn overwritten(m: State, l: Line) -> State {
-    let fields = l.fields;
-    let letter = l.letter;
-    match letter {
-        b'R' => with_register(m, fields[0], fields[1]),
-        b'K' => with_saved(m, fields[0], fields[1]),
-        b'P' => State {
-            previous: word(fields[0]),
-            ..m
-        },
-        b'C' => with_clock(m, fields[0]),
-        b'Q' => with_slot(m, Stamp::At(fields[0])),
-        b'q' => with_slot(m, Stamp::Never),
-        b'D' => with_alarm(m, Stamp::At(fields[0])),
-        b'd' => with_alarm(m, Stamp::Never),
-        b'H' => with_held(m, fields[0], fields[1]),
-        b'h' => State {
-            context: SavedContext::Unheld,
-            ..m
-        },
-        b'Z' => State { halted: true, ..m },
-        b'z' => State { halted: false, ..m },
-        _ => m,
+    // A row of stamps behind the last, from `first` on, `step` apart; none where there is no room for all of them.
+    pub fn put_stamp_row(&mut self, first: u64, step: u64, count: usize) -> Option<()>
+        ensures { IfSome result (λ _. self.new.stamps ≡ self.old.stamps + count) }
+    {
+        let end = self.stamps.checked_add(count)?;
+        let mut stamp = first;
+        for place in self.times.get_mut(self.stamps..end)? {
+            *place = stamp;
+            stamp = stamp.wrapping_add(step);
+        }
+        self.stamps = end;
+        Some(())
     }
 }

@@ -1,7 +1,8 @@
 // Access: for an instruction's address and a right, y or n for each of some addresses; and which layouts are refused.
+use base::refusal::Refusal;
 use console::print;
-use layout::access::{Access, Right};
-use layout::sections::{Layout, Span};
+use layout::access::Right;
+use layout::sections::Layout;
 use std::io;
 use std::io::Write;
 
@@ -12,24 +13,16 @@ const ADDRESSES: [u16; 14] = [
     0xfffe, 0xffff,
 ];
 
-fn layout_of(a: u16, b: u16, c: u16, d: u16, e: u16) -> Layout {
-    Layout {
-        code: Span { start: a, end: b },
-        data: Span { start: c, end: d },
-        service: e,
-    }
-}
-
 // The layout of document 01's sheet.
 fn sheet_layout() -> Layout {
-    layout_of(0x8000, 0x8008, 0x8100, 0x8104, 0x4500)
+    Layout::from([0x8000, 0x8008, 0x8100, 0x8104, 0x4500])
 }
 
-fn show_answer(out: &mut impl Write, a: Access) -> io::Result<()> {
-    match a {
-        Access::Allowed => print::text(out, b"y"),
-        Access::Barred => print::text(out, b"n"),
-        Access::Refused(_) => print::text(out, b"E"),
+fn show_answer(out: &mut impl Write, answer: Result<bool, Refusal>) -> io::Result<()> {
+    match answer {
+        Ok(true) => print::text(out, b"y"),
+        Ok(false) => print::text(out, b"n"),
+        Err(_) => print::text(out, b"E"),
     }
 }
 
@@ -59,37 +52,34 @@ pub fn from_each(out: &mut impl Write) -> io::Result<()> {
     Ok(())
 }
 
-// The refusal's number, 0 where there is none.
-fn refusal(a: Access) -> u8 {
-    match a {
-        Access::Allowed => 0,
-        Access::Barred => 0,
-        Access::Refused(r) => r.number(),
+// The refusal's number, 0 where there is none: this is what is printed.
+fn refusal(answer: Result<bool, Refusal>) -> u8 {
+    match answer {
+        Ok(_) => 0,
+        Err(refusal) => u8::from(refusal),
     }
 }
 
-fn show_layout(out: &mut impl Write, a: u16, b: u16, c: u16, d: u16, e: u16) -> io::Result<()> {
+fn show_layout(out: &mut impl Write, fields: [u16; 5]) -> io::Result<()> {
+    let [a, b, c, d, e] = fields;
     print::word(out, a)?;
     print::space_word(out, b)?;
     print::space_word(out, c)?;
     print::space_word(out, d)?;
     print::space_word(out, e)?;
-    let l = layout_of(a, b, c, d, e);
-    print::space_decimal(
-        out,
-        refusal(l.access(0x4404, Right::Execute, 0x8000)) as u64,
-    )?;
+    let answer = Layout::from(fields).access(0x4404, Right::Execute, 0x8000);
+    print::space_decimal(out, u64::from(refusal(answer)))?;
     print::end_line(out)
 }
 
 pub fn layouts(out: &mut impl Write) -> io::Result<()> {
-    show_layout(out, 0x8000, 0x8008, 0x8100, 0x8104, 0x8007)?;
-    show_layout(out, 0x8000, 0x8008, 0x8100, 0x8104, 0x8008)?;
-    show_layout(out, 0x8001, 0x8008, 0x8100, 0x8104, 0x4500)?;
-    show_layout(out, 0x8008, 0x8008, 0x8100, 0x8104, 0x4500)?;
-    show_layout(out, 0x8000, 0x8102, 0x8100, 0x8104, 0x4500)?;
-    show_layout(out, 0x8000, 0x8008, 0x8008, 0x8104, 0x4500)?;
-    show_layout(out, 0x8100, 0x8104, 0x8000, 0x8100, 0x4500)?;
-    show_layout(out, 0x8000, 0x8008, 0x8100, 0x8104, 0x8102)?;
-    show_layout(out, 0x0000, 0x0002, 0xfffc, 0xfffe, 0x4500)
+    show_layout(out, [0x8000, 0x8008, 0x8100, 0x8104, 0x8007])?;
+    show_layout(out, [0x8000, 0x8008, 0x8100, 0x8104, 0x8008])?;
+    show_layout(out, [0x8001, 0x8008, 0x8100, 0x8104, 0x4500])?;
+    show_layout(out, [0x8008, 0x8008, 0x8100, 0x8104, 0x4500])?;
+    show_layout(out, [0x8000, 0x8102, 0x8100, 0x8104, 0x4500])?;
+    show_layout(out, [0x8000, 0x8008, 0x8008, 0x8104, 0x4500])?;
+    show_layout(out, [0x8100, 0x8104, 0x8000, 0x8100, 0x4500])?;
+    show_layout(out, [0x8000, 0x8008, 0x8100, 0x8104, 0x8102])?;
+    show_layout(out, [0x0000, 0x0002, 0xfffc, 0xfffe, 0x4500])
 }

@@ -8,12 +8,19 @@ use std::io::Write;
 
 const VALUES: [u16; 5] = [0x0000, 0x0001, 0x7fff, 0x8000, 0xffff];
 
-fn name(out: &mut impl Write, o: Operation) -> io::Result<()> {
+const OPERATIONS: [Operation; 4] = [
+    Operation::Add,
+    Operation::Sub,
+    Operation::Cmp,
+    Operation::And,
+];
+
+fn name(o: Operation) -> &'static [u8] {
     match o {
-        Operation::Add => print::text(out, b"ADD"),
-        Operation::Sub => print::text(out, b"SUB"),
-        Operation::Cmp => print::text(out, b"CMP"),
-        Operation::And => print::text(out, b"AND"),
+        Operation::Add => b"ADD",
+        Operation::Sub => b"SUB",
+        Operation::Cmp => b"CMP",
+        Operation::And => b"AND",
     }
 }
 
@@ -24,7 +31,7 @@ fn show_result(out: &mut impl Write, c: Computed) -> io::Result<()> {
 }
 
 fn show(out: &mut impl Write, o: Operation, s: u16, d: u16) -> io::Result<()> {
-    name(out, o)?;
+    print::text(out, name(o))?;
     print::space_word(out, s)?;
     print::space_word(out, d)?;
     show_result(out, compute(o, s, d))
@@ -45,10 +52,10 @@ fn each(out: &mut impl Write, o: Operation) -> io::Result<()> {
 }
 
 pub fn all(out: &mut impl Write) -> io::Result<()> {
-    each(out, Operation::Add)?;
-    each(out, Operation::Sub)?;
-    each(out, Operation::Cmp)?;
-    each(out, Operation::And)
+    for o in OPERATIONS {
+        each(out, o)?;
+    }
+    Ok(())
 }
 
 fn show_inverted(out: &mut impl Write, d: u16) -> io::Result<()> {

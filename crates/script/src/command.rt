@@ -1,0 +1,122 @@
+// What a line of the script asks for. Each letter has its number of fields, and how large they may be; no other line is a command.
+use crate::line::Line;
+use crate::world::WORLD_BYTES;
+
+// A command. Of words and stamps, the numbers stay in the line.
+#[derive(Clone, Copy)]
+pub enum Command<'a> {
+    NewWorld,
+    Layout([u16; 5]),
+    Words { address: u16, words: &'a [u64] },
+    Bytes(usize),
+    Stamps(&'a [u64]),
+    NoStamps,
+    StampRow { first: u64, step: u64, count: usize },
+    Overwrite(Part),
+    Start,
+    Step,
+    Run { budget: u64 },
+}
+
+// A part of the state, and what it becomes.
+#[derive(Clone, Copy)]
+pub enum Part {
+    Register(u8, u16),
+    Saved(u8, u16),
+    Previous(u16),
+    Clock(u64),
+    Slot(Option<u64>),
+    Alarm(Option<u64>),
+    Held { previous: u16, age: u8 },
+    Unheld,
+    Halted(bool),
+}
+
+// A number as a word.
+fn word(n: u64) -> Option<u16> {
+    u16::try_from(n).ok()
+}
+
+// A number as a byte.
+fn byte(n: u64) -> Option<u8> {
+    u8::try_from(n).ok()
+}
+
+// A number of one of the sixteen registers.
+fn register(n: u64) -> Option<u8> {
+    byte(n).filter(|r| *r < 16)
+}
+
+// Five words.
+fn layout(fields: [u64; 5]) -> Option<[u16; 5]> {
+    let [a, b, c, d, e] = fields;
+    Some([word(a)?, word(b)?, word(c)?, word(d)?, word(e)?])
+}
+
+// An address and a word at least.
+fn words(address: u64, words: &[u64]) -> Option<Command<'_>> {
+    if words.is_empty() || words.iter().any(|w| word(*w).is_none()) {
+        return None;
+    }
+    Some(Command::Words {
+        address: word(address)?,
+        words,
+    })
+}
+
+// How many bytes of the memory a call is lent.
+fn bytes(n: u64) -> Option<Command<'static>> {
+    let n = usize::try_from(n).ok()?;
+    if WORLD_BYTES < n {
+        return None;
+    }
+    Some(Command::Bytes(n))
+}
+
+impl Part {
+    // The line's part; none where it names none, or has another number of fields or one that is too large.
+    fn parse(line: &Line) -> Option<Part> {
+        match (line.letter, line.fields()) {
+            (b'R', &[n, w]) => Some(Part::Register(register(n)?, word(w)?)),
+            (b'K', &[n, w]) => Some(Part::Saved(register(n)?, word(w)?)),
+            (b'P', &[a]) => Some(Part::Previous(word(a)?)),
+            (b'C', &[n]) => Some(Part::Clock(n)),
+            (b'Q', &[s]) => Some(Part::Slot(Some(s))),
+            (b'q', []) => Some(Part::Slot(None)),
+            (b'D', &[s]) => Some(Part::Alarm(Some(s))),
+            (b'd', []) => Some(Part::Alarm(None)),
+            (b'H', &[previous, age]) => Some(Part::Held {
+                previous: word(previous)?,
+                age: byte(age)?,
+            }),
+            (b'h', []) => Some(Part::Unheld),
+            (b'Z', []) => Some(Part::Halted(true)),
+            (b'z', []) => Some(Part::Halted(false)),
+            _ => None,
+        }
+    }
+}
+
+impl<'a> Command<'a> {
+    // The line's command; none where it has no command's letter, another number of fields, or one that is too large.
+    pub fn parse(line: &'a Line) -> Option<Command<'a>> {
+        let fields = line.fields();
+        match (line.letter, fields) {
+            (b'W', []) => Some(Command::NewWorld),
+            (b'L', &[a, b, c, d, e]) => Some(Command::Layout(layout([a, b, c, d, e])?)),
+            (b'M', [address, rest @ ..]) => words(*address, rest),
+            (b'N', &[n]) => bytes(n),
+            (b'A', [_, ..]) => Some(Command::Stamps(fields)),
+            (b'a', []) => Some(Command::NoStamps),
+            (b'F', &[first, step, count]) => Some(Command::StampRow {
+                first,
+                step,
+                count: usize::try_from(count).ok()?,
+            }),
+            (b'S', []) => Some(Command::Start),
+            (b'T', []) => Some(Command::Step),
+            (b'G', &[budget]) => Some(Command::Run { budget }),
+            _ => Some(Command::Overwrite(Part::parse(line)?)),
+        }
+    }
+}
