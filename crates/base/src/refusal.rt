@@ -16,6 +16,22 @@ pub enum Refusal {
     Word,
 }
 
+// Why a sheet is refused: the first refusal, and the line that it is for. Line 0 is the sheet as a whole; no Option, since document 01 prints it.
+#[derive(Clone, Copy)]
+pub struct SheetRefusal {
+    pub refusal: Refusal,
+    pub line: u64,
+}
+
+impl SheetRefusal {
+    // A refusal for a line.
+    pub fn new(refusal: Refusal, line: u64) -> SheetRefusal
+        ensures { result ≡ record { refusal = refusal; line = line } }
+    {
+        SheetRefusal { refusal, line }
+    }
+}
+
 // The refusal's number in document 01's table.
 impl From<Refusal> for u8 {
     ghost from_gives = { λ refusal n. n ≡ refusal_number refusal };

@@ -21,6 +21,7 @@ pub fn read_whole(rt: &impl Input, out: &mut impl Write, buffer: &mut [u8]) -> i
 
 // Reads until the buffer is full or the reader's bytes end, and answers how many it put there: those that the reader had first, and where
 // the buffer is not full all of them.
+#[tactic(auto, using(crate::proofs::Reading::read_more))]
 pub fn read_full<R: Read>(reader: &mut R, buffer: &mut [u8]) -> io::Result<usize>
     ensures bound { ReadsAtMost result buffer.new }
     ensures bytes { IfOk result (λ n.

@@ -1,5 +1,5 @@
 -- The search for a byte is the library's; parts to the end. Assumes nothing.
-use Rattle.std.proofs.Common.{ℕ, ◌-◌, ◌≤◌, ◌≡◌, ◌∙◌, refl, List, [], ◌∷◌, Option, None, Some, eqb, ltb, cond, length, take, drop, length-drop, arith}
+use Rattle.std.proofs.Common.{ℕ, ◌-◌, ◌≤◌, ◌≡◌, refl, List, [], ◌∷◌, Option, None, Some, eqb, ltb, cond, length, take, drop, length-drop, arith}
 use Rattle.std.proofs.lemmas.Bool.Decides.{nat_tests}
 use Rattle.std.proofs.Math.Seq.{take-length}
 use Rattle.std.specs.List.{position_or_len, list_any}
@@ -29,11 +29,7 @@ found s b place r e f =
     grind (arith, nat_tests)
 
 -- a byte stands in a text where some byte of it is that one
-pub holds_any : (s : List ℕ) (b : ℕ) → list_any (λ x. eqb x b) s ≡ holds s b
+pub holds_any : (s : List ℕ) (b : ℕ) → holds s b ≡ list_any (λ x. eqb x b) s
 unfolding find when◌then◌else◌
 holds_any [] b = refl
-holds_any (x ∷ xs) b = cases (eqb x b) (λ e. rw e (grind (arith, nat_tests))) (λ e. rw e (holds_any xs b ∙ grind (arith, nat_tests)))
-
--- a part from a start to the end
-pub from_here : (s : List ℕ) (n : ℕ) → take (length s - n) (drop n s) ≡ drop n s
-from_here s n = rw (← length-drop n s) (take-length (drop n s))
+holds_any (x ∷ xs) b = cases (eqb x b) (λ e. rw e (grind (arith, nat_tests))) (λ e. rw e (grind (arith, nat_tests, holds_any xs b)))

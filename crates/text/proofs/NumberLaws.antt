@@ -1,7 +1,7 @@
 -- A decimal, a digit at a time. Assumes nothing.
-use Rattle.std.proofs.Common.{ℕ, ◌+◌, ◌*◌, ◌≤◌, ◌<◌, ◌≡◌, ◌∙◌, ap, List, Option, None, Some, length, get_or, drop, drop-cons, add-one}
+use Rattle.std.proofs.Common.{ℕ, ◌+◌, ◌*◌, ◌≤◌, ◌<◌, ◌≡◌, ◌∙◌, ap, List, Option, None, Some, length, get_or, drop, drop-cons, add-one, le-leb}
 use Rattle.std.proofs.Math.ListN.{drop_of_length-le}
-use borrow.Author.Tests.{le-leb, lt-leb}
+use Rattle.std.proofs.lemmas.Bool.{lt-leb}
 use Rattle.base.proofs.Tests.{when_true, when_false}
 use Rattle.text.specs.Number.{decimal_digit, one_more, digits_from}
 

@@ -32,9 +32,9 @@ pub fn read_hex(field: &[u8]) -> Option<u16>
     let [a, b, c, d] = field else {
         return None;
     };
-    let high = hex_digit(*a)? as u16 * 16 + hex_digit(*b)? as u16;
-    let low = hex_digit(*c)? as u16 * 16 + hex_digit(*d)? as u16;
-    Some(high * 256 + low)
+    let high = hex_digit(*a)? * 16 + hex_digit(*b)?;
+    let low = hex_digit(*c)? * 16 + hex_digit(*d)?;
+    Some(u16::from_be_bytes([high, low]))
 }
 
 // A zero that leads other digits.
@@ -59,7 +59,7 @@ pub fn read_decimal(field: &[u8]) -> Option<u64>
         if n >= 1_000_000_000_000_000_000 {
             return None;
         }
-        n = n * 10 + d as u64;
+        n = n * 10 + u64::from(d);
     }
     Some(n)
 }

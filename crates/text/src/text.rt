@@ -2,7 +2,8 @@
 ghost use Rattle.std.specs.Prelude.{◌≡◌, ◌≤◌, length};
 ghost use Rattle.text.specs.Text.{find, holds, head, rest};
 
-// The index of the first byte b, or the length where there is none.
+// The index of the first byte b, or the length where there is none: the definition's number, and no Option, since what stands before the end is
+// all of the text.
 fn find(s: &[u8], b: u8) -> usize
     ensures { (result ≡ find s.now b) × (result ≤ length s.now) }
 {
@@ -10,6 +11,7 @@ fn find(s: &[u8], b: u8) -> usize
 }
 
 // The byte stands in the text.
+#[tactic(auto, using(crate::proofs::Finding::holds_any))]
 pub fn holds_byte(s: &[u8], b: u8) -> bool
     ensures { result ≡ holds s.now b }
 {

@@ -1,8 +1,11 @@
 -- Bytes put one after another, and the digits of a decimal. Assumes nothing.
-use Rattle.std.proofs.Common.{ℕ, zero, suc, ◌≡◌, ◌+◌, ◌-◌, ◌/◌, ◌%◌, ◌≤◌, ◌<◌, List, [], ◌∷◌, ◌++◌, length, drop, set, eqb, refl, sym, ◌∙◌, ap, arith, add-zero, length-set, length-append, get_or-set_same, drop-cons, eq-eqb}
+use Rattle.std.proofs.Common.{ℕ, zero, suc, ◌≡◌, ◌+◌, ◌-◌, ◌/◌, ◌%◌, ◌≤◌, ◌<◌, ◌^◌, List, [], ◌∷◌, ◌++◌, length, drop, set, eqb, refl, sym, ◌∙◌, ap, arith, add-zero, length-set, length-append, get_or-set_same, drop-cons, eq-eqb}
+use Rattle.std.specs.List.{between}
 use Rattle.std.proofs.lemmas.List.Edits.{sets}
+use Rattle.std.proofs.lemmas.Slice.{between_to_end}
 use Rattle.std.proofs.Math.Seq.{drop-set-lt}
 use Rattle.std.proofs.lemmas.Bool.{ne_eqb}
+use Rattle.text.specs.Text.{tab, newline}
 use Rattle.base.specs.Test.{when◌then◌else◌}
 use Rattle.base.proofs.Tests.{cases, when_true, when_false}
 use Rattle.transcript.specs.Transcript.{decimal_from, decimal_bytes, hex_bytes}
@@ -62,8 +65,10 @@ module _ (i n : ℕ) (text : List ℕ) (h : 0 < i) (k : i ≤ length text) where
           let l : j < length (set text j (0x30 + n % 10)) = rw length-set (omega arith) in
           rw (e, drop-cons (set text j (0x30 + n % 10)) j 0 l, get_or-set_same text j (0x30 + n % 10) 0 (omega arith), drop-set-lt (suc j) text j (0x30 + n % 10) (omega arith))
 
-  pub turn_last : n / 10 ≡ 0 → decimal_from i n (drop i text) ≡ drop (i - 1) (set text (i - 1) (0x30 + n % 10))
-  turn_last e = turn ∙ when_true _ _ _ (eq-eqb _ _ e) ∙ sym put
+  pub turn_last : length text ≡ 20 → n / 10 ≡ 0 → decimal_from i n (drop i text) ≡ between (i - 1) 20 (set text (i - 1) (0x30 + n % 10))
+  turn_last l e =
+      turn ∙ when_true _ _ _ (eq-eqb _ _ e) ∙ sym put
+      ∙ sym (between_to_end (set text (i - 1) (0x30 + n % 10)) _ 20 (omega (arith, length-set text (i - 1) (0x30 + n % 10))))
 
   pub turn_more : (n / 10 ≡ 0 → ⊥)
       → decimal_from i n (drop i text) ≡ decimal_from (i - 1) (n / 10) (drop (i - 1) (set text (i - 1) (0x30 + n % 10)))
@@ -72,6 +77,9 @@ module _ (i n : ℕ) (text : List ℕ) (h : 0 < i) (k : i ≤ length text) where
 pub turn_none : (n : ℕ) (ds : List ℕ) → decimal_from 0 n ds ≡ ds
 unfolding decimal_from
 turn_none n ds = refl
+
+-- what `decimal_digits` needs of a turn, and of no turn
+pub ruleset turns = (turn_last, turn_more, turn_none, length-set)
 
 -- a decimal has at most 20 digits
 pub length_decimal_bytes : (n : ℕ) → length (decimal_bytes n) ≤ 20
@@ -86,3 +94,17 @@ length_decimal_bytes n = go 20 n []
 pub length_hex_bytes : (w : ℕ) → length (hex_bytes w) ≡ 4
 unfolding hex_bytes
 length_hex_bytes w = refl
+
+-- two bytes and two numbers, each put to a line that is short
+pub numbers_put : {empty begun first between second full : Line} {a b : ℕ} (n m : ℕ) → empty.filled ≡ 0
+    → (empty.filled + 2 < 2 ^ 64 → Puts empty begun (a ∷ b ∷ [])) → (begun.filled + 20 < 2 ^ 64 → Puts begun first (decimal_bytes n))
+    → (first.filled + 1 < 2 ^ 64 → Puts first between (tab ∷ [])) → (between.filled + 20 < 2 ^ 64 → Puts between second (decimal_bytes m))
+    → (second.filled + 1 < 2 ^ 64 → Puts second full (newline ∷ []))
+    → Puts empty full (a ∷ b ∷ decimal_bytes n ++ (tab ∷ decimal_bytes m ++ (newline ∷ []))) × (full.filled ≤ 64)
+numbers_put n m z p q r s t =
+    let p = p (omega arith) in
+    let q = q (omega arith) in
+    let r = r (omega (arith, length_decimal_bytes)) in
+    let s = s (omega (arith, length_decimal_bytes)) in
+    let t = t (omega (arith, length_decimal_bytes)) in
+    (puts_then p (puts_then q (puts_then r (puts_then s t))), omega (arith, length_decimal_bytes))

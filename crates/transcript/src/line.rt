@@ -1,4 +1,5 @@
-// The transcript's lines, each written to the front of a lent buffer, as far as it goes.
+// The transcript's lines, each written to the front of a lent buffer, as far as it goes. Each answers its length and no part of the buffer, which may
+// be shorter.
 #![tactic(auto, using(crate::proofs::TranscriptLaws::length_decimal_bytes, crate::proofs::TranscriptLaws::length_hex_bytes))]
 
 ghost use Rattle.std.specs.Prelude.{◌≡◌, [], ◌∷◌, ◌+◌, ◌<◌, ◌≤◌, ◌^◌, length, set};
@@ -9,9 +10,12 @@ ghost use Rattle.transcript.specs.Put.{Puts};
 
 use answers::answer::{End, Outcome};
 use base::place::put_at;
-use base::refusal::Refusal;
+use base::refusal::SheetRefusal;
 
-// The digits of a decimal, from the last one back: those at the end of the text that is lent.
+// The digits of a decimal, from the last one back: those at the end of the text that is lent. By hand: a line is
+// written at every step, and by the library's write! of its two decimals it takes some 54 instructions more than its 637, where no row of the benchmark
+// may be slower than before.
+#[tactic(auto, using(crate::proofs::TranscriptLaws::turns), unfolding(crate::specs::Transcript::decimal_bytes))]
 pub fn decimal_digits<'a>(n: u64, text: &'a mut [u8; 20]) -> &'a [u8]
     ensures { result.now ≡ decimal_bytes n }
 {
@@ -26,7 +30,8 @@ pub fn decimal_digits<'a>(n: u64, text: &'a mut [u8; 20]) -> &'a [u8]
     text
 }
 
-// A hexadecimal digit, capitals.
+// A hexadecimal digit, capitals; by hand like the decimal ones.
+#[tactic(auto, using(text::proofs::Choices::choices), unfolding(crate::specs::Transcript::hex_byte))]
 fn hex_byte(d: u8) -> u8
     requires { d ≤ 15 }
     ensures { result ≡ hex_byte d }
@@ -62,6 +67,7 @@ impl<'a> Line<'a> {
     pub fn put(&mut self, bytes: &[u8])
         ensures { self.old.filled + length bytes.now < 2 ^ 64 → Puts self.old self.new bytes.now }
     {
+        // Byte by byte, as far as the buffer goes: of what is put no part may have room.
         for b in bytes {
             put_at(self.out, self.filled, *b);
             self.filled = self.filled.wrapping_add(1);
@@ -77,6 +83,7 @@ impl<'a> Line<'a> {
     }
 
     // Puts a tab and a word's four hexadecimal digits.
+    #[tactic(auto, unfolding(crate::specs::Transcript::hex_bytes))]
     fn put_hex_field(&mut self, w: u16)
         requires { self.old.filled + 5 < 2 ^ 64 }
         ensures { Puts self.old self.new (tab ∷ hex_bytes w) }
@@ -105,7 +112,7 @@ pub fn step_line(out: &mut [u8], n: u64, kind: Outcome, clock: u64, pc: u16, sr:
     line.len()
 }
 
-// The last line: the run's end, steps, clock.
+// The last line: the run's end, steps, clock, one by one like the fields of a step's line.
 pub fn end_line(out: &mut [u8], end: End, steps: u64, clock: u64) -> usize
     ensures { (result ≡ length (end_line end steps clock)) × ((result ≤ 64) × (out.new ≡ sets out.old 0 (end_line end steps clock))) }
 {
@@ -119,16 +126,16 @@ pub fn end_line(out: &mut [u8], end: End, steps: u64, clock: u64) -> usize
 }
 
 // A refusal: E, number, line.
-pub fn refusal_line(out: &mut [u8], refusal: Refusal, line: u64) -> usize
-    ensures { (result ≡ length (refusal_line refusal line)) × ((result ≤ 64) × (out.new ≡ sets out.old 0 (refusal_line refusal line))) }
+pub fn refusal_line(out: &mut [u8], refused: SheetRefusal) -> usize
+    ensures { (result ≡ length (refusal_line refused.refusal refused.line)) × ((result ≤ 64) × (out.new ≡ sets out.old 0 (refusal_line refused.refusal refused.line))) }
 {
-    let mut text = Line::new(out);
-    text.put(b"E\t");
-    text.put_decimal(u64::from(u8::from(refusal)));
-    text.put(b"\t");
-    text.put_decimal(line);
-    text.put(b"\n");
-    text.len()
+    let mut line = Line::new(out);
+    line.put(b"E\t");
+    line.put_decimal(u64::from(u8::from(refused.refusal)));
+    line.put(b"\t");
+    line.put_decimal(refused.line);
+    line.put(b"\n");
+    line.len()
 }
 
 // The header line: step kind clock pc sr.
