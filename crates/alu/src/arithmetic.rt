@@ -20,11 +20,17 @@ pub fn bit_15(w: u16) -> bool
     0x8000 <= w
 }
 
-// C means not zero.
-fn not_zero(r: u16) -> bool
-    ensures { result ≡ not_zero r }
-{
-    r != 0
+impl Computed {
+    // A result with an overflow. C means not zero.
+    fn new(r: u16, overflow: bool) -> Computed
+        ensures { result ≡ record { result = r; carry = not_zero r; overflow = overflow } }
+    {
+        Computed {
+            result: r,
+            carry: r != 0,
+            overflow,
+        }
+    }
 }
 
 // Both operands have one sign and the result has the other.
@@ -40,11 +46,7 @@ fn add(s: u16, d: u16) -> Computed
     ensures { result ≡ added s d }
 {
     let r = sum(d, s);
-    Computed {
-        result: r,
-        carry: not_zero(r),
-        overflow: sign_turns(bit_15(d), bit_15(s), bit_15(r)),
-    }
+    Computed::new(r, sign_turns(bit_15(d), bit_15(s), bit_15(r)))
 }
 
 // Destination minus source.
@@ -52,34 +54,21 @@ fn subtract(s: u16, d: u16) -> Computed
     ensures { result ≡ subtracted s d }
 {
     let r = difference(d, s);
-    Computed {
-        result: r,
-        carry: not_zero(r),
-        overflow: sign_turns(bit_15(d), !bit_15(s), bit_15(r)),
-    }
+    Computed::new(r, sign_turns(bit_15(d), !bit_15(s), bit_15(r)))
 }
 
+// The bits of both. V is 0.
 fn mask(s: u16, d: u16) -> Computed
     ensures { result ≡ conjoined s d }
 {
-    let r = s & d;
-    Computed {
-        result: r,
-        carry: not_zero(r),
-        overflow: false,
-    }
+    Computed::new(s & d, false)
 }
 
 // NOT of the destination.
 pub fn invert(d: u16) -> Computed
     ensures { result ≡ inverted d }
 {
-    let r = 0xffff - d;
-    Computed {
-        result: r,
-        carry: not_zero(r),
-        overflow: bit_15(d),
-    }
+    Computed::new(0xffff - d, bit_15(d))
 }
 
 // What an operation computes from the source and the destination.

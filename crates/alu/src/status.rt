@@ -25,7 +25,7 @@ pub fn zero_is_set(sr: u16) -> bool
 fn bit(test: bool, weight: u16) -> u16
     ensures { (result ≡ bit_of test * weight) × (result ≤ weight) }
 {
-    if test { weight } else { 0 }
+    u16::from(test) * weight
 }
 
 // C, Z, N and V in their places.

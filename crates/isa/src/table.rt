@@ -1,10 +1,10 @@
 // The constant tables of cycles and lengths, by kind.
 ghost use Rattle.std.specs.Prelude.{◌≡◌};
-ghost use Rattle.isa.specs.Cycles.{kind_of, kind_number, cycles_of, length_of};
+ghost use Rattle.isa.specs.Cycles.{kind_of, cycles_of, length_of};
 
 use crate::instruction::{Instruction, Operand};
 
-// The kinds of instructions, in the order of the tables.
+// The kinds of instructions, in the order of the tables. No `Row`: that carries its operation, and so is no index of a table.
 #[derive(Clone, Copy, PartialEq, Eq, Debug)]
 pub enum Kind {
     Hlt,
@@ -22,7 +22,7 @@ pub enum Kind {
     Not,
 }
 
-// 003's Table 1, by kind.
+// 003's Table 1, by kind: constant tables, the form that document 01 asks for.
 const CYCLES: [u8; 13] = [1, 2, 2, 2, 5, 1, 2, 1, 2, 4, 2, 1, 2];
 
 const LENGTHS: [u8; 13] = [1, 1, 1, 1, 1, 1, 1, 1, 1, 2, 2, 1, 2];
@@ -30,7 +30,7 @@ const LENGTHS: [u8; 13] = [1, 1, 1, 1, 1, 1, 1, 1, 1, 2, 2, 1, 2];
 impl Instruction {
     // The kind of an instruction.
     pub fn kind(self) -> Kind
-        ensures { kind_number result ≡ kind_of self }
+        ensures { result ≡ kind_of self }
     {
         match self {
             Instruction::Hlt => Kind::Hlt,

@@ -3,5 +3,4 @@ pub mod SpanLaws
 pub mod SectionLaws
 pub mod RuleLaws
 pub mod LayoutLaws
-pub mod ColumnLaws
 pub mod AccessLaws

@@ -15,11 +15,7 @@ use layout::sections::Layout;
 fn weight_of(layout: Layout, from: u16, right: Right, a: u16, weight: u8) -> u8
     ensures { (result ≡ weight_if (may layout from right a) weight) × (result ≤ weight) }
 {
-    if layout.may(from, right, a) {
-        weight
-    } else {
-        0
-    }
+    u8::from(layout.may(from, right, a)) * weight
 }
 
 // What an instruction at `from` may do to the byte at `a`: execute 1, read 2, write 4, or a sum of those.
@@ -33,7 +29,7 @@ fn rights_of(layout: Layout, from: u16, a: u16) -> u8
     execute + read + write
 }
 
-// The access question for all three rights at once, or refusal 2.
+// The access question for all three rights at once, or refusal 2: numbers, as the C interface has them.
 #[tactic(auto, using(base::proofs::Tests::choices), unfolding(layout::specs::Access::access_answer, base::specs::Kept::unless_refused))]
 pub fn access_lent(layout: &[u16; 5], from: u16, a: u16, rights: &mut u8) -> u8
     ensures number { (right : RIGHT) → result ≡ access_refusal (access_answer (layout_of layout.now) from right a) }

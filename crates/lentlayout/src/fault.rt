@@ -7,7 +7,8 @@ ghost use Rattle.lentlayout.specs.Fault.{rule_number, fault_number};
 use layout::rules::Rule;
 use layout::sections::Layout;
 
-// The number of a rule, in document 01's order from 1; no `From`, which would stand in the crate of `Rule`.
+// The number of a rule, in document 01's order from 1; no `From`: the number is the C interface's, of which the crate of
+// `Rule` knows nothing.
 fn rule_number(rule: Rule) -> u8
     ensures { result ≡ rule_number rule }
 {

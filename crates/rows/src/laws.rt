@@ -2,6 +2,7 @@
 ghost use Rattle.rows.specs.Laws.{OneRow};
 
 // No first word is in two rows of the table.
+#[tactic(auto, using(crate::proofs::Rows::one_row_only))]
 pub fn no_word_in_two_rows()
     ensures { OneRow }
 {}

@@ -109,6 +109,7 @@ fn dispatch_word(first: u16) -> Option<Begun>
 
 impl Begun {
     // What the first word begins.
+    #[tactic(auto, using(crate::proofs::Rows::dispatch_begun))]
     pub fn begin(first: u16) -> Option<Begun>
         ensures { result ≡ begun first }
     {

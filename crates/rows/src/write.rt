@@ -97,7 +97,7 @@ impl Encoding {
         if !is_encodable(self) {
             return Err(Refusal::Word);
         }
-        let first = first_word(self.row, self.source as u16, self.destination as u16);
+        let first = first_word(self.row, self.source.into(), self.destination.into());
         Ok(words_of(self.row.second(), first, self.word))
     }
 }
