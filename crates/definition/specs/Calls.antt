@@ -1,8 +1,8 @@
 -- What callers get: the first refusal in order, with the machine and memory as they came; or the definition's result.
+use Rattle.std.specs.Prelude.{ℕ, Bool, true, false, List, [], ◌∷◌, ◌++◌, leb, ltb, eqb, length, Result, Ok, Err}
 use Rattle.answers.specs.Outcome.{stopped}
 use Rattle.answers.specs.declared.answer.Stopped.{Stopped}
 use Rattle.answers.specs.declared.answer.Outcome.{Outcome}
-use Rattle.std.specs.Prelude.{ℕ, Bool, true, false, List, [], ◌∷◌, ◌++◌, leb, ltb, eqb, length, Result, Ok, Err}
 use Rattle.base.specs.Test.{when◌then◌else◌, all}
 use Rattle.base.specs.FirstFailure.{Test, test}
 use Rattle.base.specs.Limits.{memory_bytes, last_clock, most_stamps, most_budget}

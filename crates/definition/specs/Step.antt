@@ -1,6 +1,6 @@
 -- One step: judged, then acting, then its cycles, then the interrupt.
-use Rattle.answers.specs.declared.answer.Cause.{Cause}
 use Rattle.std.specs.Prelude.{ℕ, Bool, true, false, List, Option, None, Result, Ok, Err, Some}
+use Rattle.answers.specs.declared.answer.Cause.{Cause}
 use Rattle.base.specs.Test.{when◌then◌else◌}
 use Rattle.isa.specs.declared.instruction.Instruction.{Instruction}
 use Rattle.isa.specs.declared.instruction.Instruction.TheVariants.{Hlt, In, Out, Jz, Reti, Nop, Jmp, Mov, Store, Compute, Not}

@@ -16,6 +16,7 @@ pub struct SavedContext {
 }
 
 // The registers, the previous instruction's address, the time, the held visit if there is one, its saved registers, and whether it is halted.
+// The saved registers stand beside the visit, since the C interface lends them apart and in place.
 #[derive(Clone, Copy)]
 pub struct State {
     pub registers: [u16; 16],

@@ -1,21 +1,15 @@
 -- Two machines outside that are in step stay so: they keep, fall or resume together, and are seen alike. Assumes nothing.
-use Rattle.std.specs.Prelude.{None}
-use mathlib.Core.Path.{◌≡◌, refl, sym, ◌∙◌, ap, fun_ext}
-use mathlib.Core.Bool.{true, false, true≢false}
-use mathlib.Core.List.{List}
-use Prim.Native.Nat.{ℕ}
+use Rattle.std.proofs.Common.{None, ◌≡◌, sym, ◌∙◌, ap, true, false, List, ℕ, arith}
+use Rattle.std.proofs.Math.Path.{fun_ext}
 use Rattle.base.specs.Word.{drop_bit0}
-use Rattle.base.proofs.Tests.{cases, when_true, when_false}
+use Rattle.base.proofs.Tests.{choices}
 use Rattle.layout.specs.Sections.{inside, outside}
 use Rattle.layout.specs.Rules.{accepted}
 use Rattle.definition.specs.Setting.{Setting}
-use Rattle.definition.specs.declared.state.Time.{Time}
 use Rattle.answers.specs.declared.answer.Outcome.{Outcome}
-use Rattle.answers.specs.declared.answer.Outcome.TheVariants.{Ran, Plain, Padded, Chained, Back, Reset, Halted}
 use Rattle.definition.specs.Registers.{pc, cleared}
 use Rattle.answers.specs.Outcome.{is_reset}
-use Rattle.definition.specs.Time.{pass, emptied}
-use Rattle.definition.specs.State.{World, vector, is_held, reset_address, start, held_visit}
+use Rattle.definition.specs.State.{World, vector, reset_address, start, held_visit}
 use Rattle.definition.specs.Interrupt.{Step}
 use Rattle.definition.specs.Run.{world_after, step_of}
 use Rattle.definition.specs.Laws.{SameOutside, SameView, SameStep, is_resuming, SeenAlike, alike, OutsideLocal}
@@ -32,10 +26,7 @@ use Rattle.secrecy.proofs.Ways.{vector_public, Steady, InsideStep, ResetAtOnce, 
 bytes_same : (S : Setting) (mem bytes : List ℕ) → SameOutside S mem bytes → outside_bytes S mem ≡ outside_bytes S bytes
 unfolding outside_bytes
 bytes_same S mem bytes s =
-    fun_ext λ a.
-    cases (outside S.layout a)
-    (λ o. when_true _ _ _ o ∙ s.same a o ∙ sym (when_true _ _ _ o))
-    (λ o. when_false _ _ _ o ∙ sym (when_false _ _ _ o))
+    fun_ext λ a. grind (arith, choices, s.same a)
 
 pub view_same : (S : Setting) (a b : World) → SameView S a b → view_of S a ≡ view_of S b
 unfolding view_of
@@ -43,13 +34,7 @@ view_same S a b s = rw (s.registers, s.time, bytes_same S a.memory b.memory s.me
 
 sighting_resumes : (before after : View) (o : Outcome) → is_resuming o ≡ true → sighting_of before after o ≡ resumes before
 unfolding sighting_of
-sighting_resumes before after Ran h = cc
-sighting_resumes before after Plain h = cc
-sighting_resumes before after Padded h = refl
-sighting_resumes before after Chained h = cc
-sighting_resumes before after Back h = refl
-sighting_resumes before after (Reset c) h = cc
-sighting_resumes before after Halted h = cc
+sighting_resumes before after o h = grind arith
 
 module _ (S : Setting) (a b : World) (view : SameView S a b) (s u : Step) where
   pub seen_alike : SameStep S s u
@@ -59,7 +44,7 @@ module _ (S : Setting) (a b : World) (view : SameView S a b) (s u : Step) where
   pub seen_resuming : is_resuming s.outcome ≡ true → is_resuming u.outcome ≡ true
       → sighting_at S (move_of a s) ≡ sighting_at S (move_of b u)
   seen_resuming h k =
-      sighting_resumes _ _ _ h ∙ ap resumes (view_same S a b view) ∙ sym (sighting_resumes _ _ _ k)
+      cc (sighting_resumes _ _ _ h, view_same S a b view, sighting_resumes _ _ _ k)
 
 -- ---- two steps that begin outside
 
@@ -79,7 +64,7 @@ module _ (S : Setting) where
 
   same_of : (s u : Step) → is_resuming s.outcome ≡ false → SeenAlike S s u → SameStep S s u
   same_of s u h (alike x) = x
-  same_of s u h (Laws.resuming x y) = absurd (true≢false (sym x ∙ h))
+  same_of s u h (Laws.resuming x y) = absurd (cc)
 
   resuming_same : (s u : Step) → SeenAlike S s u → is_resuming s.outcome ≡ is_resuming u.outcome
   resuming_same s u (alike x) = ap is_resuming x.outcome
@@ -88,15 +73,13 @@ module _ (S : Setting) where
   both : (a b : World) (s u : Step) → SeenAlike S s u → Service S a.state a.memory s
       → Service S b.state b.memory u → Both a b s u
   both a b s u x (kept h n r z) (kept h' n' r' z') = keep (same_of s u z x) h h' n n' r r'
-  both a b s u x (kept h n r z) (was_reset h' n' r' z') =
-      absurd (true≢false (sym r' ∙ ap is_reset (sym (same_of s u z x).outcome) ∙ r))
-  both a b s u x (kept h n r z) (resuming p i h' r' z' e g) = absurd (true≢false (sym z' ∙ sym (resuming_same s u x) ∙ z))
-  both a b s u x (was_reset h n r z) (kept h' n' r' z') =
-      absurd (true≢false (sym r ∙ ap is_reset (same_of s u z x).outcome ∙ r'))
+  both a b s u x (kept h n r z) (was_reset h' n' r' z') = absurd (cc (same_of s u z x).outcome)
+  both a b s u x (kept h n r z) (resuming p i h' r' z' e g) = absurd (cc (resuming_same s u x))
+  both a b s u x (was_reset h n r z) (kept h' n' r' z') = absurd (cc (same_of s u z x).outcome)
   both a b s u x (was_reset h n r z) (was_reset h' n' r' z') = both_reset (same_of s u z x) h h' n n' r r'
-  both a b s u x (was_reset h n r z) (resuming p i h' r' z' e g) = absurd (true≢false (sym z' ∙ sym (resuming_same s u x) ∙ z))
-  both a b s u x (resuming p i h r z e g) (kept h' n' r' z') = absurd (true≢false (sym z ∙ resuming_same s u x ∙ z'))
-  both a b s u x (resuming p i h r z e g) (was_reset h' n' r' z') = absurd (true≢false (sym z ∙ resuming_same s u x ∙ z'))
+  both a b s u x (was_reset h n r z) (resuming p i h' r' z' e g) = absurd (cc (resuming_same s u x))
+  both a b s u x (resuming p i h r z e g) (kept h' n' r' z') = absurd (cc (resuming_same s u x))
+  both a b s u x (resuming p i h r z e g) (was_reset h' n' r' z') = absurd (cc (resuming_same s u x))
   both a b s u x (resuming p i h r z e g) (resuming p' i' h' r' z' e' g') = resume p i p' i' h h' r r' z z' g g'
 
 module _ (S : Setting) (fit : accepted S.layout ≡ true) where
@@ -126,9 +109,9 @@ module _ (S : Setting) (fit : accepted S.layout ≡ true) (a b : World) (view : 
       → SameView S (world_after s) (world_after u)
   reset_view s u x y =
       record {
-        registers = x.registers ∙ ap cleared (reset_same S fit _ _ view.memory) ∙ sym y.registers;
-        time = x.time ∙ ap (λ (t : Time). emptied (pass S 4 t)) view.time ∙ sym y.time;
-        held = ap is_held (x.context ∙ sym y.context);
-        halted = x.running ∙ sym y.running;
+        registers = cc (reset_same S fit _ _ view.memory);
+        time = cc;
+        held = cc;
+        halted = cc;
         memory = rw (x.memory, y.memory) view.memory;
       }

@@ -1,20 +1,13 @@
 -- A list of calls is a chain of steps of a running machine, each from where the last one left. Assumes nothing.
+use Rattle.std.proofs.Common.{Result, Err, Ok, ◌≡◌, refl, true, false, List, [], ◌∷◌, ◌++◌, ℕ, zero, suc, ◌+◌, ◌≤◌, arith, leb-true}
 use Rattle.base.specs.declared.refusal.Refusal.{Refusal}
-use Rattle.std.specs.Prelude.{Result, Err, Ok}
-use mathlib.Core.Path.{◌≡◌, refl, sym, ◌∙◌, ap, subst}
-use mathlib.Core.Bool.{false, true≢false}
-use mathlib.Core.List.{List, [], ◌∷◌, ◌++◌}
-use Prim.Native.Nat.{ℕ, zero, suc, ◌+◌, ◌≤◌}
-use native.Mathlib.Omega.{arith}
-use lib.Dec.{eqb}
-use borrow.Author.Tests.{leb-true}
-use Rattle.base.specs.Limits.{memory_bytes, last_clock}
+use Rattle.base.specs.Limits.{last_clock}
+use Rattle.base.proofs.Tests.{choices}
 use Rattle.base.specs.Verdict.{verdict, unrefused}
 use Rattle.layout.specs.Rules.{accepted}
 use Rattle.definition.specs.Setting.{Setting}
-use Rattle.answers.specs.declared.answer.End.TheVariants.{Spent}
 use Rattle.definition.specs.State.{World}
-use Rattle.definition.specs.Run.{Going, goes, stops, ending, Stop, Move, world_after, step_of, stop_or, run_from, run, none_or, moves}
+use Rattle.definition.specs.Run.{Going, ending, Move, world_after, step_of, run_from, run, none_or, moves}
 use Rattle.definition.specs.Calls.{step_tests, run_tests, step_call, run_call}
 use Rattle.definition.specs.Laws.{HaltedStays, FrameKept, LengthKept, ReadyToRun, world_at}
 use Rattle.definition.proofs.step.CycleLaws.{halted_stays}
@@ -69,63 +62,30 @@ module _ (S : Setting) where
   -- a run stops where its moves end
   run_ends_there : (n left : ℕ) (w : World) → world_at (run_from S n left w) ≡ end_of w (moves S left w)
   unfolding run_from moves end_of
-  run_ends_there n zero w = go (ending w.state)
-    where
-      spent : Stop
-      spent = record { state = w.state; memory = w.memory; end = Spent; steps = n }
-
-      go : (g : Going) → world_at (stop_or S n w spent g) ≡ w
-      go goes = refl
-      go (stops e) = refl
-  run_ends_there n (suc left) w = go (ending w.state) (run_ends_there (n + 1) left (next w))
-    where
-      go : (g : Going) → world_at (run_from S (n + 1) left (next w)) ≡ end_of (next w) (moves S left (next w))
-          → world_at (stop_or S n w (run_from S (n + 1) left (next w)) g)
-          ≡ end_of w (none_or S (moved w ∷ moves S left (next w)) g)
-      go goes h = h
-      go (stops e) h = refl
+  run_ends_there n zero w = grind arith
+  run_ends_there n (suc left) w = grind (arith, run_ends_there (n + 1) left (next w))
 
   -- ---- one call
 
+  -- the moves of a call are a chain, also where it is refused
+  taken : {w : World} {vs : List Move} (v : Result (Unit {0}) Refusal) → Chain w vs → Chain w (moves_when v vs)
+  taken (Ok _) c = c
+  taken (Err r) c = done
+
   steps_chain : (w : World) (c : Call) → Chain w (steps_of S w c)
   unfolding steps_of
-  steps_chain w stepping = go (verdict (step_tests S w))
-    where
-      go : (v : Result (Unit {0}) Refusal) → Chain w (moves_when v (moves S 1 w))
-      go (Ok _) = moves_chain 1 w
-      go (Err r) = done
-  steps_chain w (Calls.running budget) = go (verdict (run_tests S budget w))
-    where
-      go : (v : Result (Unit {0}) Refusal) → Chain w (moves_when v (moves S budget w))
-      go (Ok _) = moves_chain budget w
-      go (Err r) = done
+  steps_chain w stepping = taken _ (moves_chain 1 w)
+  steps_chain w (Calls.running budget) = taken _ (moves_chain budget w)
 
   -- no step is taken from a clock above the last
   step_clock : (w : World) → verdict (step_tests S w) ≡ unrefused → w.state.time.clock ≤ last_clock
   step_clock w e =
       leb-true _ _ (all_hold _ e).1.1.1.1.0
 
-  -- a step that is taken ends where its move does, also on a halted machine, where there is none
-  step_ends_there : (w : World) (g : Going) → Ends w.state g → w.state.time.clock ≤ last_clock
-      → next w ≡ end_of w (none_or S (moved w ∷ []) g)
-  unfolding end_of HaltedStays
-  step_ends_there w g (running h c) l = refl
-  step_ends_there w g (halted_now h) l = ap world_after (halted_stays S w.state w.memory h)
-  step_ends_there w g (late_now h c) l = absurd (omega arith)
-
   left_end : (w : World) (c : Call) → left_by S w c ≡ end_of w (steps_of S w c)
-  unfolding left_by steps_of step_call run_call run moves
-  left_end w stepping = go (verdict (step_tests S w)) refl
-    where
-      go : (v : Result (Unit {0}) Refusal) → verdict (step_tests S w) ≡ v → left_by S w stepping ≡ end_of w (steps_of S w stepping)
-      go (Ok _) e = rw e (step_ends_there w (ending w.state) (ends w.state) (step_clock w e))
-      go (Err r) e = rw e (unfold end_of in refl)
-  left_end w (Calls.running budget) = go (verdict (run_tests S budget w)) refl
-    where
-      go : (v : Result (Unit {0}) Refusal) → verdict (run_tests S budget w) ≡ v
-          → left_by S w (Calls.running budget) ≡ end_of w (steps_of S w (Calls.running budget))
-      go (Ok _) e = rw e (run_ends_there 0 budget w)
-      go (Err r) e = rw e (unfold end_of in refl)
+  unfolding left_by steps_of step_call run_call run moves end_of ending HaltedStays
+  left_end w stepping = grind (arith, choices, halted_stays S w.state w.memory, step_clock w)
+  left_end w (Calls.running budget) = grind (arith, run_ends_there 0 budget w)
 
   -- ---- a list of calls
 
@@ -133,24 +93,19 @@ module _ (S : Setting) where
   unfolding run_of
   run_chain w [] = done
   run_chain w (c ∷ calls) =
-      append (steps_chain w c)
-      (subst (λ (u : World). Chain u (run_of S (left_by S w c) calls)) (left_end w c)
-      (run_chain (left_by S w c) calls))
+      append (steps_chain w c) (rw (← left_end w c) (run_chain (left_by S w c) calls))
 
   pub left_by_all_lem : (w : World) (calls : List Call) → left_by_all S w calls ≡ end_of w (run_of S w calls)
   unfolding run_of left_by_all
   left_by_all_lem w [] = unfold end_of in refl
-  left_by_all_lem w (c ∷ calls) =
-      left_by_all_lem (left_by S w c) calls
-      ∙ ap (λ (u : World). end_of u (run_of S (left_by S w c) calls)) (left_end w c)
-      ∙ sym (end_append w (steps_of S w c) (run_of S (left_by S w c) calls))
+  left_by_all_lem w (c ∷ calls) = cc (left_by_all_lem (left_by S w c) calls, left_end w c, end_append w (steps_of S w c) (run_of S (left_by S w c) calls))
 
   -- what refusals 1 to 4 test stays true, so that only 5 and 6 can happen on a list
   ready_next : (w : World) → ReadyToRun S w → ReadyToRun S (next w)
   unfolding FrameKept LengthKept
   ready_next w s =
       record {
-        memory = ap (λ (n : ℕ). eqb n memory_bytes) (length_kept S w.state w.memory) ∙ s.memory;
+        memory = cc (length_kept S w.state w.memory);
         layout = s.layout;
         timetable = s.timetable;
         frame = frame_kept S w.state w.memory s.layout s.frame;
@@ -162,23 +117,19 @@ module _ (S : Setting) where
   ready_end {w} (more h c) s = ready_end c (ready_next w s)
 
   pub ready_left : (w : World) (calls : List Call) → ReadyToRun S w → ReadyToRun S (left_by_all S w calls)
-  ready_left w calls s = subst (ReadyToRun S) (sym (left_by_all_lem w calls)) (ready_end (run_chain w calls) s)
+  ready_left w calls s = rw left_by_all_lem (ready_end (run_chain w calls) s)
 
   -- ---- a layout that is not accepted: every call is refused
 
   module _ (n : accepted S.layout ≡ false) where
+    none_taken : (v : Result (Unit {0}) Refusal) (vs : List Move) → (v ≡ unrefused → accepted S.layout ≡ true) → moves_when v vs ≡ []
+    none_taken (Ok _) vs h = absurd (cc (h refl))
+    none_taken (Err r) vs h = refl
+
     no_steps : (w : World) (c : Call) → steps_of S w c ≡ []
     unfolding steps_of
-    no_steps w stepping = go (verdict (step_tests S w)) refl
-      where
-        go : (v : Result (Unit {0}) Refusal) → verdict (step_tests S w) ≡ v → steps_of S w stepping ≡ []
-        go (Ok _) e = absurd (true≢false (sym (all_hold _ e).1.0 ∙ n))
-        go (Err r) e = rw e
-    no_steps w (Calls.running budget) = go (verdict (run_tests S budget w)) refl
-      where
-        go : (v : Result (Unit {0}) Refusal) → verdict (run_tests S budget w) ≡ v → steps_of S w (Calls.running budget) ≡ []
-        go (Ok _) e = absurd (true≢false (sym (all_hold _ e).1.0 ∙ n))
-        go (Err r) e = rw e
+    no_steps w stepping = none_taken _ _ (λ e. (all_hold (step_tests S w) e).1.0)
+    no_steps w (Calls.running budget) = none_taken _ _ (λ e. (all_hold (run_tests S budget w) e).1.0)
 
     pub none_run : (w : World) (calls : List Call) → run_of S w calls ≡ []
     unfolding run_of

@@ -1,15 +1,7 @@
 -- One run by itself, in the module: where it next comes into the open. Assumes nothing.
-use Rattle.std.specs.Prelude.{None}
-use mathlib.Core.Path.{◌≡◌, refl, sym, ◌∙◌, ap, subst}
-use mathlib.Core.Bool.{Bool, true, false}
-use mathlib.Core.List.{List, [], ◌∷◌, ◌++◌}
-use Prim.Native.Nat.{ℕ, ◌+◌, ◌-◌, ◌≤◌, ◌<◌}
-use native.Mathlib.Omega.{arith}
-use lib.Dec.{ltb}
-use lib.ListN.{length}
-use borrow.Author.Tests.{ltb-true, ltb-false}
+use Rattle.std.proofs.Common.{None, ◌≡◌, refl, sym, ◌∙◌, ap, Bool, true, false, List, [], ◌∷◌, ℕ, ◌+◌, ◌-◌, ◌≤◌, ◌<◌, arith, ltb, length, ltb-true, ltb-false, add-zero}
 use Rattle.base.specs.Test.{any}
-use Rattle.base.proofs.Tests.{when_false}
+use Rattle.base.proofs.Tests.{choices}
 use Rattle.layout.specs.Sections.{outside}
 use Rattle.layout.specs.Rules.{accepted}
 use Rattle.alu.specs.Status.{gie}
@@ -25,7 +17,7 @@ use Rattle.definition.proofs.time.PassLaws.{pass_adds, pass_clock}
 use Rattle.definition.specs.Step.{judged}
 use Rattle.definition.proofs.separation.ViewLaws.{same_trans}
 use Rattle.secrecy.specs.Sighting.{Sighting, sightings}
-use Rattle.secrecy.specs.Visit.{Way, leaving, own_reset, Fate, unended, ended, Visit, Phase, away, visiting, judged_cycles, closed, visits_by, visits, fate_at}
+use Rattle.secrecy.specs.Visit.{Way, leaving, own_reset, Fate, unended, ended, Visit, Phase, away, visiting, judged_cycles, visits_by, visits, fate_at}
 use Rattle.secrecy.specs.Secrecy.{complete}
 use Rattle.secrecy.proofs.Chain.{end_of, moved, next, Chain, done, more}
 use Rattle.secrecy.proofs.Ways.{Steady, steady_next, BrokenInto, InsideStep, continued, broken_into, ResetAtOnce, Inner, failed, acted, inner_step}
@@ -42,8 +34,7 @@ Beyond T c k (ended e) = T + k < c + e.own
 
 least_beyond : (T c k n : ℕ) (f : Fate) → T < c + n → Least (k + n) f → Beyond T c k f
 unfolding Beyond Least
-least_beyond T c k n unended h l = tt
-least_beyond T c k n (ended e) h l = omega arith
+least_beyond T c k n f h l = grind arith
 
 module _ (S : Setting) where
   -- ---- n cycles on from a time that is itself some cycles on from t
@@ -51,41 +42,28 @@ module _ (S : Setting) where
   module _ (t u : Time) (mem : List ℕ) (n : ℕ) (e : u ≡ pass S n t) where
     later : (k : ℕ) → pass S k u ≡ pass S (n + k) t
     unfolding PassAdds
-    later k = ap (pass S k) e ∙ pass_adds S n k t
+    later k = cc (pass_adds S n k t)
 
     later_clock : u.clock ≡ t.clock + n
-    later_clock = ap (λ (z : Time). z.clock) e ∙ pass_clock S n t
+    later_clock = cc (pass_clock S n t)
 
     wait : (c d stamp : ℕ) → d ≡ c + n → d < stamp → n + (stamp + 6 - d) ≡ stamp + 6 - c
     wait c d stamp h l = omega arith
 
     inside_later : (g : Bool) (k : ℕ) (s : Step) → InsideStep S u g mem k s → InsideStep S t g mem (n + k) s
     inside_later g k s (continued x) =
-        continued
-        (record {
-          time = x.time ∙ later k;
-          context = x.context;
-          running = x.running;
-          enabled = x.enabled;
-          previous = x.previous;
-          memory = x.memory;
-          outcome = x.outcome;
-        })
+        continued (grind (arith, later k))
     inside_later g k s (broken_into stamp on x) =
         let c = later_clock in
-        let after = x.after in
-        let aged = x.aged in
         broken_into stamp on
         (record {
-          slot = ap (λ (z : Time). z.slot) (sym (later k)) ∙ x.slot;
-          after = omega arith;
-          time = x.time
-              ∙ ap (λ (z : Time). pass S 6 (emptied z))
-              (later (stamp + 6 - u.clock) ∙ ap (λ (z : ℕ). pass S z t) (wait t.clock u.clock stamp c after));
+          slot = cc (later k);
+          after = omega (arith, x.after);
+          time = cc (later (stamp + 6 - u.clock), wait t.clock u.clock stamp c x.after);
           previous = x.previous;
           age = x.age;
           context = x.context;
-          aged = omega arith;
+          aged = omega (arith, x.aged);
           registers = x.registers;
           running = x.running;
           memory = x.memory;
@@ -96,16 +74,7 @@ module _ (S : Setting) where
   pub inside_from : (t : Time) (g : Bool) (mem base : List ℕ) (n : ℕ) (s : Step) → SameOutside S base mem → InsideStep S t g mem n s
       → InsideStep S t g base n s
   inside_from t g mem base n s h (continued x) =
-      continued
-      (record {
-        time = x.time;
-        context = x.context;
-        running = x.running;
-        enabled = x.enabled;
-        previous = x.previous;
-        memory = same_trans S h x.memory;
-        outcome = x.outcome;
-      })
+      let m = same_trans S h x.memory in continued (grind arith)
   inside_from t g mem base n s h (broken_into stamp on x) =
       broken_into stamp on
       (record {
@@ -183,21 +152,20 @@ module _ (S : Setting) (fit : accepted S.layout ≡ true) (T : ℕ) (t : Time) (
 
   unasked : {n start : ℕ} {w : World} {p : Phase} → Steady S w.state → In n start w p
       → Unasked S T t k g base n
-  unasked a b e = ap (λ (z : Time). z.slot) (sym b.time) ∙ a.nothing_due b.running (b.enabled ∙ e)
+  unasked a b e = cc (a.nothing_due b.running (b.enabled ∙ e))
 
   clock_in : {n start : ℕ} {w : World} {p : Phase} → In n start w p → w.state.time.clock ≡ t.clock + n
-  clock_in {n = n} b = ap (λ (z : Time). z.clock) b.time ∙ pass_clock S n t
+  clock_in {n = n} b = cc (pass_clock S n t)
 
   -- the run stops here
   module _ (n start len : ℕ) (w : World) (p : Phase) (a : Steady S w.state) (b : In n start w p) where
     ends_open : (q : Phase) → Beyond T t.clock k (fate_at (visits S q []) 0)
     unfolding visits_by Beyond
-    ends_open away = tt
-    ends_open (visiting s j) = tt
+    ends_open q = grind arith
 
     incomplete : ltb T w.state.time.clock ≡ false → complete T w ≡ false
     unfolding any
-    incomplete e = when_false _ _ _ e ∙ when_false _ _ _ b.running
+    incomplete e = grind (arith, choices)
 
     stops : (y : Bool) → ltb T w.state.time.clock ≡ y → Emerges S T t k g base [] (visits S p []) w len
     stops true e =
@@ -224,12 +192,6 @@ module _ (S : Setting) (fit : accepted S.layout ≡ true) (T : ℕ) (t : Time) (
     departs c h o l =
         let q = clock_in b in
         let e : p ≡ visiting start (k + n) = sym (phase_outside S w.state p o) ∙ b.phase in
-        let x : visits S p (moved S w ∷ vs)
-        ≡ record { start = start; fate = end_at w.state.time.clock (k + n + 0) leaving w.state.registers }
-        ∷ visits S away vs =
-        leaves S p (moved S w) vs (ap is_held b.context) o
-        ∙ ap (λ (z : Phase). closed z w.state.time.clock 0 leaving w.state.registers ++ visits S away vs) e
-        in
         let r : Rest S T (sightings S T (moved S w ∷ vs)) (visits S p (moved S w ∷ vs))
         (end_of w (moved S w ∷ vs)) len =
         record {
@@ -245,12 +207,7 @@ module _ (S : Setting) (fit : accepted S.layout ≡ true) (T : ℕ) (t : Time) (
           shorter = omega arith;
         } in
         departed n start r (omega arith) (unasked a.steady b) b.time b.context o e b.memory
-        (ap (λ (z : List Visit). fate_at z 0) x
-        ∙ ap (λ (z : ℕ). end_at z (k + n + 0) leaving w.state.registers) q
-        ∙ ap (λ (z : ℕ). end_at (t.clock + n) z leaving w.state.registers) (plus_zero (k + n)))
-      where
-        plus_zero : (z : ℕ) → z + 0 ≡ z
-        plus_zero z = omega arith
+        (rw (leaves S p (moved S w) vs (ap is_held b.context) o, e, q, add-zero))
 
   -- a step that goes on in the module, or is broken into there, n cycles in from the base
   pub inside_emerges : (n start len : ℕ) (s : Step) (vs : List Move) (ss : List Sighting) (xs : List Visit) → Steady S s.state
@@ -305,7 +262,7 @@ module _ (S : Setting) (fit : accepted S.layout ≡ true) (T : ℕ) (t : Time) (
         let h = ltb-true T s.state.time.clock e in
         let z = reset_visit S w s p vs start (k + n) 4 b.context o b.phase f x.outcome in
         late n (omega arith) (unasked a.steady b) (unseen S T _ vs o ∙ silent S fit T d i h)
-        (subst (λ (u : List Visit). Beyond T t.clock k (fate_at u 0)) (sym z) (omega arith))
+        (rw z (omega arith))
     fails s f x i d false e =
         let q = reset_clock s x in
         let h = ltb-false T s.state.time.clock e in
@@ -324,9 +281,7 @@ module _ (S : Setting) (fit : accepted S.layout ≡ true) (T : ℕ) (t : Time) (
           shorter = l;
         } in
         self_reset n _ _ z r (omega arith) (unasked a.steady b)
-        (x.time ∙ ap (λ (u : Time). emptied (pass S 4 u)) b.time) x.context refl
-        (subst (SameOutside S base) (sym x.memory) b.memory)
-        (ap (λ (u : ℕ). end_at u (k + n + 4) own_reset s.state.registers) q)
+        (cc) x.context refl (rw x.memory b.memory) (rw q)
 
     goes_on : (s : Step) (n' : ℕ) → judged_cycles (judged S w) ≡ n'
         → InsideStep S w.state.time (gie (sr w.state.registers)) w.memory n' s → Steady S s.state
@@ -337,16 +292,12 @@ module _ (S : Setting) (fit : accepted S.layout ≡ true) (T : ℕ) (t : Time) (
         → Goal s
     unfolding end_of
     goes_on s n' f x i c rec =
+        let grown : k + n + n' ≡ k + (n + n') = omega arith in
         inside_emerges (n + n') start len s vs _ _ i c l (unseen S T (move_of w s) vs o)
-        (continued_visit S w s p vs start (k + n) n' b.context o b.phase f (inside_outcome S _ _ _ _ s x)
-        ∙ ap (λ (z : ℕ). visits S (visiting start z) vs) grown)
-        rec
+        (rw grown at (continued_visit S w s p vs start (k + n) n' b.context o b.phase f (inside_outcome S _ _ _ _ s x))) rec
         (inside_from S t g w.memory base (n + n') s b.memory
         (inside_later S t w.state.time w.memory n b.time g n' s
-        (subst (λ (z : Bool). InsideStep S w.state.time z w.memory n' s) b.enabled x)))
-      where
-        grown : k + n + n' ≡ k + (n + n')
-        grown = omega arith
+        (rw b.enabled at x)))
 
     inner_emerges : (s : Step) → Steady S s.state → Chain S (world_after s) vs
         → ((n' : ℕ) → Good S s.state (visiting start (k + n')) → In n' start (world_after s) (visiting start (k + n'))

@@ -1,11 +1,6 @@
 -- What each step adds to a visit: from where it is, a visit that ends lasts its own cycles and what its interrupts add. Assumes nothing.
-use Rattle.std.specs.Prelude.{Option, None, Ok, Some}
-use mathlib.Core.Path.{◌≡◌, refl, sym, ◌∙◌, ap, subst}
-use mathlib.Core.Bool.{Bool, true, false, true≢false}
-use mathlib.Core.List.{List, ◌∷◌}
-use Prim.Native.Nat.{ℕ, ◌+◌}
-use native.Mathlib.Omega.{arith}
-use Rattle.base.proofs.Tests.{cases, when_true, when_false, choose}
+use Rattle.std.proofs.Common.{Option, None, Ok, Some, ◌≡◌, refl, sym, ◌∙◌, ap, Bool, true, false, List, ◌∷◌, ℕ, ◌+◌, arith}
+use Rattle.base.proofs.Tests.{cases, choices}
 use Rattle.isa.specs.declared.instruction.Instruction.{Instruction}
 use Rattle.layout.specs.Sections.{inside, outside}
 use Rattle.layout.specs.Rules.{accepted}
@@ -13,8 +8,7 @@ use Rattle.definition.specs.Setting.{Setting}
 use Rattle.definition.specs.declared.state.Time.{Time}
 use Rattle.definition.specs.declared.state.SavedContext.{SavedContext}
 use Rattle.definition.specs.declared.state.State.{State}
-use Rattle.answers.specs.declared.answer.Outcome.{Outcome}
-use Rattle.answers.specs.declared.answer.Outcome.TheVariants.{Plain, Padded}
+use Rattle.answers.specs.declared.answer.Outcome.TheVariants.{Plain}
 use Rattle.definition.specs.Registers.{pc}
 use Rattle.answers.specs.Outcome.{is_reset}
 use Rattle.definition.specs.Time.{pass, emptied}
@@ -44,10 +38,6 @@ module _ (S : Setting) where
   unfolding padded age_of pass emptied
   padded_adds stamp x mem = omega arith
 
-  padded_outcome : (stamp : ℕ) (x : State) (mem : List ℕ) → Padded ≡ (padded S stamp x mem).outcome
-  unfolding padded
-  padded_outcome stamp x mem = refl
-
   module _ (m : State) (mem : List ℕ) where
     abbrev own : ℕ
     own = judged_cycles (judged S (world m mem))
@@ -62,11 +52,7 @@ module _ (S : Setting) where
         → ((plain S x bytes).state.time.clock ≡ x.time.clock + 6)
         × ((plain S x bytes).state.context ≡ x.context) × ((plain S x bytes).outcome ≡ Plain)
     unfolding plain pass emptied reset
-    plain_adds x bytes =
-        choose
-        (λ (s : Step). is_reset s.outcome ≡ false
-        → (s.state.time.clock ≡ x.time.clock + 6) × (s.state.context ≡ x.context) × (s.outcome ≡ Plain))
-        _ (λ t r. (refl, refl, refl)) (λ t r. absurd (true≢false r))
+    plain_adds x bytes = grind (arith, choices)
 
     -- the machine after an instruction holds what it held, its cycles later
     next_after : (i : Instruction) → judged S (world m mem) ≡ Ok i
@@ -78,37 +64,34 @@ module _ (S : Setting) where
     service_adds_lem : ((i : Instruction) → judged S (world m mem) ≡ Ok i → inside S.layout (pc m.registers) ≡ false) → (s : Step)
         → Way S m mem s → is_reset s.outcome ≡ false
         → After (m.time.clock + owed m.context) (service_adds s.outcome own) s
-    unfolding reset chained back pass emptied
-    service_adds_lem out s (resets c e) r = absurd (true≢false r)
+    unfolding reset chained back pass emptied padded
+    service_adds_lem out s (resets c e) r = absurd (cc)
     service_adds_lem out s (halts i e h) r = let a = next_after i e in omega (arith, a.1, ap owed a.0)
     service_adds_lem out s (runs i u d) r = let a = next_after i u.acting in omega (arith, a.1, ap owed a.0)
     service_adds_lem out s (serves i k u n d) r =
         let a = next_after i u.acting in
         let p = plain_adds (next S m mem i) _ r in
         rw p.2 (omega (arith, p.0, ap owed p.1, a.1, ap owed a.0))
-    service_adds_lem out s (pads i k u n d) r = absurd (true≢false (sym n ∙ out i u.acting))
+    service_adds_lem out s (pads i k u n d) r = absurd (cc (out i u.acting))
     service_adds_lem out s (chains p a k u e) r = omega (arith, ap owed u.holding)
     service_adds_lem out s (returns p a u e d) r = omega (arith, ap owed u.holding)
     service_adds_lem out s (pads_again p a k u e d) r =
-        let x = after_return S m p a in
-        subst (λ (o : Outcome). After (m.time.clock + owed m.context) (service_adds o own) (padded S k x mem))
-        (padded_outcome k x mem) (omega (arith, padded_adds k x mem, returned_clock p a, ap owed u.holding))
+        omega (arith, padded_adds k (after_return S m p a) mem, returned_clock p a, ap owed u.holding)
 
     -- an instruction of the module, none being held
     inside_adds_lem : ((i : Instruction) → judged S (world m mem) ≡ Ok i → inside S.layout (pc m.registers) ≡ true) → m.context ≡ None → (s : Step)
         → Way S m mem s → is_reset s.outcome ≡ false → After (m.time.clock + own) (inside_adds s.outcome) s
-    inside_adds_lem ins free s (resets c e) r = absurd (true≢false (unfold reset in r))
+    unfolding reset padded
+    inside_adds_lem ins free s (resets c e) r = absurd (cc)
     inside_adds_lem ins free s (halts i e h) r = let a = next_after i e in omega (arith, a.1, ap owed (a.0 ∙ free))
     inside_adds_lem ins free s (runs i u d) r = let a = next_after i u.acting in omega (arith, a.1, ap owed (a.0 ∙ free))
-    inside_adds_lem ins free s (serves i k u n d) r = absurd (true≢false (sym (ins i u.acting) ∙ n))
+    inside_adds_lem ins free s (serves i k u n d) r = absurd (cc (ins i u.acting))
     inside_adds_lem ins free s (pads i k u n d) r =
         let a = next_after i u.acting in
-        let x = next S m mem i in
-        subst (λ (o : Outcome). After (m.time.clock + own) (inside_adds o) (padded S k x (bytes m mem i)))
-        (padded_outcome k x (bytes m mem i)) (omega (arith, padded_adds k x (bytes m mem i), a.1))
-    inside_adds_lem ins free s (chains p a k u e) r = absurd (true≢false (sym (ap is_held u.holding) ∙ ap is_held free))
-    inside_adds_lem ins free s (returns p a u e d) r = absurd (true≢false (sym (ap is_held u.holding) ∙ ap is_held free))
-    inside_adds_lem ins free s (pads_again p a k u e d) r = absurd (true≢false (sym (ap is_held u.holding) ∙ ap is_held free))
+        omega (arith, padded_adds k (next S m mem i) (bytes m mem i), a.1)
+    inside_adds_lem ins free s (chains p a k u e) r = absurd (cc)
+    inside_adds_lem ins free s (returns p a u e d) r = absurd (cc)
+    inside_adds_lem ins free s (pads_again p a k u e d) r = absurd (cc)
 
 -- ---- what a first step adds
 
@@ -116,33 +99,32 @@ module _ (S : Setting) (v : Move) (vs : List Move) where
   held_adds : is_held v.before.state.context ≡ true → is_reset v.after.outcome ≡ false
       → meanwhile S (v ∷ vs) ≡ service_adds v.after.outcome (own_cycles S v) + meanwhile S vs
   unfolding meanwhile
-  held_adds h r = when_true _ _ _ h ∙ when_false _ _ _ r
+  held_adds h r = grind (arith, choices)
 
   left_adds : is_held v.before.state.context ≡ false → begins_outside S v ≡ true → meanwhile S (v ∷ vs) ≡ 0
   unfolding meanwhile
-  left_adds h o = when_false _ _ _ h ∙ when_true _ _ _ o
+  left_adds h o = grind (arith, choices)
 
   reset_adds : is_held v.before.state.context ≡ false → begins_outside S v ≡ false → is_reset v.after.outcome ≡ true
       → meanwhile S (v ∷ vs) ≡ 0
   unfolding meanwhile
-  reset_adds h o r = when_false _ _ _ h ∙ when_false _ _ _ o ∙ when_true _ _ _ r
+  reset_adds h o r = grind (arith, choices)
 
   inner_adds : is_held v.before.state.context ≡ false → begins_outside S v ≡ false → is_reset v.after.outcome ≡ false
       → meanwhile S (v ∷ vs) ≡ inside_adds v.after.outcome + meanwhile S vs
   unfolding meanwhile
-  inner_adds h o r = when_false _ _ _ h ∙ when_false _ _ _ o ∙ when_false _ _ _ r
+  inner_adds h o r = grind (arith, choices)
 
 -- ---- a visit from where it is to its end
 
 -- a visit at this clock, with what is owed and its own cycles so far, ends so if it ends
 unfoldable pub Lasts : ℕ → ℕ → ℕ → Fate → Type 0
-Lasts clock own n unended = Unit {0}
-Lasts clock own n (ended e) = e.clock + own ≡ clock + e.own + n
+Lasts clock k n unended = Unit {0}
+Lasts clock k n (ended e) = e.clock + k ≡ clock + e.own + n
 
 lasts_on : (c d own k m n : ℕ) (f : Fate) → d + k + m ≡ c + own + n → Lasts c k n f → Lasts d own m f
 unfolding Lasts
-lasts_on c d own k m n unended e h = tt
-lasts_on c d own k m n (ended x) e h = omega arith
+lasts_on c d own k m n f e h = grind arith
 
 module _ (S : Setting) (fit : accepted S.layout ≡ true) where
   -- the clock of a world with what its held visit owes
@@ -168,7 +150,7 @@ module _ (S : Setting) (fit : accepted S.layout ≡ true) where
     held_on : (previous age : ℕ) → w.state.context ≡ held_visit previous age → is_reset s.outcome ≡ false
         → Service S w.state w.memory s → Good S s.state (visiting start own)
     held_on previous age h n (kept k p q x) = good_held S _ steady_after start own previous age (k ∙ h)
-    held_on previous age h n (was_reset k p q x) = absurd (true≢false (sym q ∙ n))
+    held_on previous age h n (was_reset k p q x) = absurd (cc)
     held_on previous age h n (resuming q a k x y f g) = inside_good S _ _ _ _ start own s steady_after g
 
     held_lasts : (previous age : ℕ) → w.state.context ≡ held_visit previous age
@@ -217,10 +199,8 @@ module _ (S : Setting) (fit : accepted S.layout ≡ true) where
           → Lasts (ahead (after S w)) n (meanwhile S vs) (fate_at (visits S (visiting start n) vs) 0))
           → Lasts (ahead w) own (meanwhile S (moved S w ∷ vs)) (fate_at (visits S p (moved S w ∷ vs)) 0)
       go (Some visit) h b o on =
-          subst (λ (x : Phase). Lasts (ahead w) own (meanwhile S (moved S w ∷ vs)) (fate_at (visits S x (moved S w ∷ vs)) 0))
-          (sym e ∙ phase_held S w.state p (ap is_held h)) (held_lasts w vs start own r g.steady on visit.previous visit.age h)
+          rw (sym (phase_held S w.state p (ap is_held h)) ∙ e) (held_lasts w vs start own r g.steady on visit.previous visit.age h)
       go None h true o on =
-          subst (λ (x : Phase). Lasts (ahead w) own (meanwhile S (moved S w ∷ vs)) (fate_at (visits S x (moved S w ∷ vs)) 0))
-          (sym e ∙ phase_outside S w.state p o) (left_lasts w vs start own r g.steady on h o)
+          rw (sym (phase_outside S w.state p o) ∙ e) (left_lasts w vs start own r g.steady on h o)
       go None h false o on =
           inner_lasts w vs start own r g.steady on p h o e (inner_step S fit w.state w.memory g.steady r h o)

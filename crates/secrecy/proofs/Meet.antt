@@ -1,15 +1,7 @@
 -- Two runs in the module, from one base: with the premise they come into the open alike. Assumes nothing.
-use Rattle.std.specs.Prelude.{Option, None, Some}
-use mathlib.Core.Path.{◌≡◌, refl, sym, ◌∙◌, ap, subst, subst₂}
-use mathlib.Core.Bool.{Bool, true, false, true≢false}
-use mathlib.Core.List.{List, [], ◌∷◌}
-use Prim.Native.Nat.{ℕ, suc, ◌+◌, ◌-◌, ◌≤◌, ◌<◌}
-use native.Mathlib.Omega.{arith}
-use lib.Dec.{leb}
-use lib.ListN.{length}
-use borrow.Author.Tests.{leb-true, leb-false, le-leb}
-use Rattle.base.specs.Test.{when◌then◌else◌, any}
-use Rattle.base.proofs.Tests.{cases, when_true}
+use Rattle.std.proofs.Common.{None, Some, ◌≡◌, sym, ◌∙◌, ap, Bool, true, false, List, [], ◌∷◌, ℕ, suc, ◌+◌, ◌-◌, ◌≤◌, ◌<◌, arith, length}
+use Rattle.base.specs.Test.{any}
+use Rattle.base.proofs.Tests.{choices}
 use Rattle.layout.specs.Sections.{outside}
 use Rattle.layout.specs.Rules.{accepted}
 use Rattle.definition.specs.Setting.{Setting}
@@ -23,7 +15,7 @@ use Rattle.definition.specs.Laws.{PassAdds, SameOutside, SameView}
 use Rattle.definition.proofs.time.PassLaws.{pass_adds, pass_clock, pass_filled, slot_kept}
 use Rattle.definition.proofs.separation.ViewLaws.{same_sym, same_trans}
 use Rattle.secrecy.specs.Sighting.{Sighting, sightings}
-use Rattle.secrecy.specs.Visit.{Way, leaving, own_reset, Fate, unended, ended, Visit, Phase, away, visiting, visits, fate_at, ended_by}
+use Rattle.secrecy.specs.Visit.{Way, leaving, own_reset, Fate, Visit, Phase, away, visiting, visits, fate_at}
 use Rattle.secrecy.specs.Secrecy.{EqualEnds, BothEnded, Premise, AgreeAsFar, complete, Agree}
 use Rattle.secrecy.proofs.Chain.{end_of, Chain}
 use Rattle.secrecy.proofs.Ways.{BrokenInto}
@@ -35,33 +27,18 @@ use Rattle.secrecy.proofs.Jump.{end_at, Beyond, Rest, Unasked, Emerges, short, l
 module _ (S : Setting) (t : Time) where
   pass_on : (a b : ℕ) → a ≤ b → pass S (b - a) (pass S a t) ≡ pass S b t
   unfolding PassAdds
-  pass_on a b h = let q : a + (b - a) ≡ b = omega arith in pass_adds S a (b - a) t ∙ ap (λ (z : ℕ). pass S z t) q
+  pass_on a b h = let q : a + (b - a) ≡ b = omega arith in rw q at (pass_adds S a (b - a) t)
 
   slot_on : (a b s : ℕ) → a ≤ b → (pass S a t).slot ≡ Some s → (pass S b t).slot ≡ Some s
-  slot_on a b s h e = ap (λ (z : Time). z.slot) (sym (pass_on a b h)) ∙ slot_kept S (b - a) (pass S a t) s e
-
-  not_never : {A : Type 0} (x : Option ℕ) (s : ℕ) → x ≡ Some s → x ≡ None → A
-  not_never x s e f = let z : ◌≡◌ {A = ℕ} 0 1 = cc in absurd (omega arith)
+  slot_on a b s h e = cc (pass_on a b h, slot_kept S (b - a) (pass S a t) s e)
 
   -- a slot that is empty after a cycles is filled by a later stamp
   slot_later : (a b s : ℕ) → (pass S a t).slot ≡ None → (pass S b t).slot ≡ Some s → t.clock + a < s
-  slot_later a b s e f =
-      cases (leb a b)
-      (λ h.
-      let c = pass_clock S a t in
-      let u = (pass_filled S (b - a) (pass S a t) s e (ap (λ (z : Time). z.slot) (pass_on a b (leb-true a b h)) ∙ f)).0 in
-      omega arith)
-      (λ h. not_never _ s (slot_on b a s (let l = leb-false a b h in omega arith) f) e)
+  slot_later a b s e f = grind (arith, slot_on b a s, pass_on a b, pass_clock S a t, pass_filled S (b - a) (pass S a t) s)
 
   -- it is filled but once
   slot_once : (a b s u : ℕ) → (pass S a t).slot ≡ Some s → (pass S b t).slot ≡ Some u → s ≡ u
-  slot_once a b s u e f =
-      cases (leb a b)
-      (λ h. same _ (slot_on a b s (leb-true a b h) e) f)
-      (λ h. same _ e (slot_on b a u (let l = leb-false a b h in omega arith) f))
-    where
-      same : (x : Option ℕ) → x ≡ Some s → x ≡ Some u → s ≡ u
-      same x p q = cc
+  slot_once a b s u e f = grind (arith, slot_on a b s, slot_on b a u)
 
 -- ---- agreement, either way round
 
@@ -82,7 +59,7 @@ module _ (T : ℕ) where
   none_seen e f = record { as_far = rw e tt; equally_many = λ x y. ap length (e ∙ sym f) }
 
   stopped_short : {ss us : List Sighting} {a b : World} → ss ≡ [] → complete T a ≡ false → Agree T a b ss us
-  stopped_short e f = record { as_far = rw e tt; equally_many = λ x y. absurd (true≢false (sym x ∙ f)) }
+  stopped_short e f = record { as_far = rw e tt; equally_many = λ x y. absurd (cc) }
 
   agree_at : {ss us ss' us' : List Sighting} {a b a' b' : World} → ss ≡ ss' → us ≡ us' → a ≡ a' → b ≡ b'
       → Agree T a' b' ss' us' → Agree T a b ss us
@@ -100,60 +77,42 @@ EndsAs own way registers f = EndedEqual (end_at 0 own way registers) f
 
 clock_unasked : (c own : ℕ) (way : Way) (registers : List ℕ) (f : Fate) → EndedEqual (end_at c own way registers) f
     → EndsAs own way registers f
-clock_unasked c own way registers unended x = x
-clock_unasked c own way registers (ended e) x = x
+clock_unasked c own way registers f x = grind arith
 
 ended_sym : (f h : Fate) → EndedEqual f h → EndedEqual h f
-ended_sym unended h x = absurd x
-ended_sym (ended e) unended x = absurd x
-ended_sym (ended e) (ended d) x = (sym x.0, sym x.1, sym x.2)
-
-any_first : (a b : Bool) → a ≡ true → any (a ∷ b ∷ []) ≡ true
-unfolding any
-any_first a b h = when_true _ _ _ h
-
-any_second : (a b : Bool) → b ≡ true → any (a ∷ b ∷ []) ≡ true
-unfolding any when◌then◌else◌
-any_second true b h = refl
-any_second false b h = rw h
+ended_sym f h x = grind arith
 
 -- an end at T or below is one of both
 module _ (T : ℕ) (xs ys : List Visit) (premise : Premise T xs ys) (c own : ℕ) (way : Way) (registers : List ℕ) (h : c ≤ T) where
   pub first_alike : fate_at xs 0 ≡ end_at c own way registers → EndsAs own way registers (fate_at ys 0)
-  first_alike e =
-      clock_unasked c own way registers (fate_at ys 0)
-      (subst (λ (z : Fate). EndedEqual z (fate_at ys 0)) e
-      (premise 0 (any_first _ _ (ap (ended_by T) e ∙ le-leb c T h))))
+  unfolding any
+  first_alike e = clock_unasked c own way registers (fate_at ys 0) (rw e at (premise 0 (grind (arith, choices))))
 
   pub second_alike : fate_at ys 0 ≡ end_at c own way registers → EndsAs own way registers (fate_at xs 0)
+  unfolding any
   second_alike e =
-      clock_unasked c own way registers (fate_at xs 0)
-      (subst (λ (z : Fate). EndedEqual z (fate_at xs 0)) e
-      (ended_sym (fate_at xs 0) (fate_at ys 0) (premise 0 (any_second _ _ (ap (ended_by T) e ∙ le-leb c T h)))))
+      clock_unasked c own way registers (fate_at xs 0) (rw e at (ended_sym (fate_at xs 0) (fate_at ys 0) (premise 0 (grind (arith, choices)))))
 
 pub premise_tail : (T : ℕ) {xs ys : List Visit} (x y : Visit) {xs' ys' : List Visit} → xs ≡ x ∷ xs' → ys ≡ y ∷ ys'
     → Premise T xs ys → Premise T xs' ys'
-premise_tail T x y {xs'} {ys'} e f h = let h' : Premise T (x ∷ xs') (y ∷ ys') = subst₂ (Premise T) e f h in λ i q. h' (suc i) q
+premise_tail T x y {xs'} {ys'} e f h = let h' = rw (e, f) at h in λ i q. h' (suc i) q
 
 -- an end that came by T is not beyond it
 not_beyond : (T c k own : ℕ) (way : Way) (registers : List ℕ) (f : Fate) → Beyond T c k f → EndsAs own way registers f
     → c + own ≤ T + k → ⊥
 unfolding Beyond
-not_beyond T c k own way registers unended b x l = x
-not_beyond T c k own way registers (ended e) b x l = let q = x.0 in omega arith
+not_beyond T c k own way registers f b x l = grind arith
 
 -- a visit that a request broke into has not ended before its stamp
 not_before : (k n m stamp age c own : ℕ) (way : Way) (registers : List ℕ) (f : Fate) → own ≡ k + m + way_cycles way → Least (k + n) f
     → EndsAs own way registers f → stamp + age ≡ c + n → c + m < stamp → ⊥
 unfolding Least
-not_before k n m stamp age c own way registers unended o l x q w = x
-not_before k n m stamp age c own way registers (ended e) o l x q w =
-    let z = x.0 in let y = ap way_cycles x.1 in omega arith
+not_before k n m stamp age c own way registers f o l x q w = grind arith
 
 -- two ends alike
 both_ends : (d i j : ℕ) (w v : Way) (rs us : List ℕ) (f : Fate) → EndsAs i w rs f → f ≡ end_at d j v us
     → (i ≡ j) × (w ≡ v) × (rs ≡ us)
-both_ends d i j w v rs us f x e = subst (EndsAs i w rs) e x
+both_ends d i j w v rs us f x e = rw e at x
 
 not_both : (d i j : ℕ) (rs us : List ℕ) (f : Fate) → EndsAs i leaving rs f → f ≡ end_at d j own_reset us → ⊥
 not_both d i j rs us f x e = let z = ap way_cycles (both_ends d i j leaving own_reset rs us f x e).1 in omega arith
@@ -188,7 +147,7 @@ module _ (S : Setting) (fit : accepted S.layout ≡ true) (T : ℕ) where
   rests_agree m n r q rec s e =
       agree_at T r.sights q.sights r.ends q.ends
       (rec r.world q.world r.phase q.phase r.moves q.moves r.chain q.chain r.good q.good s
-      (subst₂ (Premise T) r.visited q.visited e) r.shorter)
+      (rw (r.visited, q.visited) at e) r.shorter)
 
   module _ (t : Time) (k : ℕ) (g : Bool) (base : List ℕ) where
     -- two worlds out of the module
@@ -203,10 +162,8 @@ module _ (S : Setting) (fit : accepted S.layout ≡ true) (T : ℕ) where
         → BrokenInto S t base n stamp s → r.world ≡ world_after s → r.phase ≡ visiting start (k + n)
         → Least (k + n) (fate_at xs 0)
     served_least n start stamp s r x e f =
-        let h : is_held r.world.state.context ≡ true =
-        ap (λ (w : World). is_held w.state.context) e ∙ ap is_held x.context in
-        subst (λ (z : List Visit). Least (k + n) (fate_at z 0)) (sym r.visited)
-        (least S fit r.phase start (k + n) r.chain r.good (phase_held S r.world.state r.phase h ∙ f))
+        let h : is_held r.world.state.context ≡ true = cc in
+        rw r.visited (least S fit r.phase start (k + n) r.chain r.good (phase_held S r.world.state r.phase h ∙ f))
 
     service_clock : (s : ℕ) → t.clock < s → (pass S 6 (emptied (pass S (s + 6 - t.clock) t))).clock ≡ s + 12
     unfolding pass emptied
@@ -252,8 +209,7 @@ module _ (S : Setting) (fit : accepted S.layout ≡ true) (T : ℕ) where
           let e : l ≡ l' = let q0 = q.0 in omega arith in
           rests_agree m n r r' rec
           (record {
-            view = meets _ _ q.2 (tm ∙ ap (λ (z : ℕ). pass S z t) e ∙ sym tm') (ap is_held (hd ∙ sym hd'))
-                r.running r'.running mm mm';
+            view = meets _ _ q.2 (cc) (cc) r.running r'.running mm mm';
             paired = both_leaving hd hd' o start (k + l) start' (k + l') ph ph';
           })
           premise
@@ -270,8 +226,7 @@ module _ (S : Setting) (fit : accepted S.layout ≡ true) (T : ℕ) where
           let e : l ≡ l' = let q0 = q.0 in omega arith in
           rests_agree m n r r' rec
           (record {
-            view = meets _ _ q.2 (tm ∙ ap (λ (z : ℕ). emptied (pass S 4 (pass S z t))) e ∙ sym tm')
-                (ap is_held (hd ∙ sym hd')) r.running r'.running mm mm';
+            view = meets _ _ q.2 (cc) (cc) r.running r'.running mm mm';
             paired = both_away hd hd' ph ph';
           })
           (premise_tail T x x' ex ey premise)
@@ -289,23 +244,17 @@ module _ (S : Setting) (fit : accepted S.layout ≡ true) (T : ℕ) where
           let i : k + l ≡ k + (u - t.clock) + x.age = omega arith in
           let j : k + l' ≡ k + (u - t.clock) + x'.age = omega arith in
           rests_agree m n r r' rec
-          (subst₂ (λ (c d : World). InStep S c d r.phase r'.phase) (sym w) (sym w')
+          (rw (w, w')
           (record {
-            view = meets (world_after s) (world_after s') (x.registers ∙ sym x'.registers)
-                (x.time ∙ ap (λ (z : ℕ). pass S 6 (emptied (pass S (z + 6 - t.clock) t))) e ∙ sym x'.time)
-                (ap is_held x.context ∙ sym (ap is_held x'.context)) x.running x'.running x.memory x'.memory;
+            view = meets (world_after s) (world_after s') (cc) (cc) (cc) x.running x'.running x.memory x'.memory;
             paired = both_held x.previous x.age x'.previous x'.age start start' (k + (u - t.clock)) x.context x'.context
-                (ph ∙ ap (visiting start) i) (ph' ∙ ap (visiting start') j);
+                (cc) (cc);
           }))
           premise
 
       pub meet : Emerges S T t k g base ss xs a m → Emerges S T t k g base us ys b n → Agree T a b ss us
-      meet (short e c) (short e' c') = stopped_short T e c
-      meet (short e c) (late l w f z y) = stopped_short T e c
-      meet (short e c) (departed l st r w f tm hd o ph mm fa) = stopped_short T e c
-      meet (short e c) (self_reset l x zs q r w f tm hd ph mm fa) = stopped_short T e c
-      meet (short e c) (served l st u s r on x v ph) = stopped_short T e c
-      meet (late l w f z y) (short e c) = swapped T (stopped_short T e c)
+      meet (short e c) second = stopped_short T e c
+      meet first (short e c) = swapped T (stopped_short T e c)
       meet (late l w f z y) (late l' w' f' z' y') = none_seen T z z'
       meet (late l w f z y) (departed l' st r w' f' tm hd o ph mm fa) =
           absurd (not_beyond T t.clock k (k + l') leaving _ (fate_at xs 0) y (first_too w' fa) (omega arith))
@@ -314,7 +263,6 @@ module _ (S : Setting) (fit : accepted S.layout ≡ true) (T : ℕ) where
           (not_beyond T t.clock k (k + l' + 4) own_reset _ (fate_at xs 0) y
           (first_too w' (head_fate ys x zs _ q fa)) (omega arith))
       meet (late l w f z y) (served l' st u s r on x v ph) = late_served l' l u s r w f z on x v
-      meet (departed l st r w f tm hd o ph mm fa) (short e c) = swapped T (stopped_short T e c)
       meet (departed l st r w f tm hd o ph mm fa) (late l' w' f' z y) =
           absurd (not_beyond T t.clock k (k + l) leaving _ (fate_at ys 0) y (second_too w fa) (omega arith))
       meet (departed l st r w f tm hd o ph mm fa) (departed l' st' r' w' f' tm' hd' o' ph' mm' fa') =
@@ -326,7 +274,6 @@ module _ (S : Setting) (fit : accepted S.layout ≡ true) (T : ℕ) where
           absurd
           (not_before k l' l u x.age t.clock (k + l) leaving _ (fate_at ys 0) (omega arith) (served_least l' st' u s r' x v ph')
           (second_too w fa) x.aged (slot_later S t l l' u (f on) x.slot))
-      meet (self_reset l x zs q r w f tm hd ph mm fa) (short e c) = swapped T (stopped_short T e c)
       meet (self_reset l x zs q r w f tm hd ph mm fa) (late l' w' f' z y) =
           absurd
           (not_beyond T t.clock k (k + l + 4) own_reset _ (fate_at ys 0) y
@@ -341,7 +288,6 @@ module _ (S : Setting) (fit : accepted S.layout ≡ true) (T : ℕ) where
           absurd
           (not_before k l' l u x'.age t.clock (k + l + 4) own_reset _ (fate_at ys 0) (omega arith) (served_least l' st u s r' x' v ph')
           (second_too w (head_fate xs x zs _ q fa)) x'.aged (slot_later S t l l' u (f on) x'.slot))
-      meet (served l st u s r on x v ph) (short e c) = swapped T (stopped_short T e c)
       meet (served l st u s r on x v ph) (late l' w f z y) = swapped T (late_served l l' u s r w f z on x v)
       meet (served l st u s r on x v ph) (departed l' st' r' w f tm hd o ph' mm fa) =
           absurd

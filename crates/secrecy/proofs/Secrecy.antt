@@ -1,13 +1,6 @@
 -- Demand 3: secrecy over two whole lists of calls. Assumes nothing.
+use Rattle.std.proofs.Common.{None, Result, Err, Ok, ◌≡◌, refl, sym, ◌∙◌, subst, subst₂, true, false, List, ℕ, suc, arith, length, eqb-true}
 use Rattle.base.specs.declared.refusal.Refusal.{Refusal}
-use Rattle.std.specs.Prelude.{None, Result, Err, Ok}
-use mathlib.Core.Path.{◌≡◌, refl, sym, ◌∙◌, ap, subst, subst₂}
-use mathlib.Core.Bool.{true, false}
-use mathlib.Core.List.{List}
-use Prim.Native.Nat.{ℕ, suc}
-use native.Mathlib.Omega.{arith}
-use lib.ListN.{length}
-use borrow.Author.Tests.{eqb-true}
 use Rattle.base.specs.Limits.{memory_bytes}
 use Rattle.base.proofs.Tests.{cases}
 use Rattle.base.specs.Verdict.{verdict, unrefused}
@@ -42,7 +35,7 @@ started mem h = go (verdict (start_tests mem)) refl
   where
     go : (v : Result (Unit {0}) Refusal) → verdict (start_tests mem) ≡ v → Started mem
     go (Ok _) e = record { whole = eqb-true _ _ (all_hold _ e).0; begins = rw e }
-    go (Err r) e = let f : Err r ≡ unrefused = rw e at h in let z : ◌≡◌ {A = ℕ} 0 1 = cc in absurd (omega arith)
+    go (Err r) e = absurd (cc (rw e at h))
 
 start_unheld : (mem : List ℕ) → (start mem).context ≡ None
 unfolding start
@@ -78,18 +71,13 @@ secrecy S mem_a mem_b calls_a calls_b T ea eb same premise =
 
     not_accepted : accepted S.layout ≡ false → Goal
     not_accepted n =
-        none_seen T
-        (ap (sightings S T) (none_run S n (start_world mem_a) calls_a) ∙ unfold sightings in refl)
-        (ap (sightings S T) (none_run S n (start_world mem_b) calls_b) ∙ unfold sightings in refl)
+        rw (none_run S n (start_world mem_a) calls_a, none_run S n (start_world mem_b) calls_b) (unfold sightings in none_seen T refl refl)
 
     yes_accepted : accepted S.layout ≡ true → Goal
     yes_accepted fit =
         let sa = started mem_a ea in
         let sb = started mem_b eb in
-        subst₂
-        (λ (u v : World).
-        Agree T u v (sightings S T (run_of S (start_world mem_a) calls_a)) (sightings S T (run_of S (start_world mem_b) calls_b)))
-        (sym (left_by_all_lem S (start_world mem_a) calls_a)) (sym (left_by_all_lem S (start_world mem_b) calls_b))
+        rw (left_by_all_lem S (start_world mem_a) calls_a, left_by_all_lem S (start_world mem_b) calls_b)
         (together S fit T (suc (length (run_of S (start_world mem_a) calls_a)))
         (start_world mem_a) (start_world mem_b) away away
         (run_of S (start_world mem_a) calls_a) (run_of S (start_world mem_b) calls_b)

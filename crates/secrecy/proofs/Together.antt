@@ -1,15 +1,8 @@
 -- Two runs that begin in step agree, as far as both go: by induction on a bound of the first run's length. Assumes nothing.
-use Rattle.std.specs.Prelude.{None}
-use mathlib.Core.Path.{◌≡◌, refl, sym, ◌∙◌, ap, subst, subst₂}
-use mathlib.Core.Bool.{Bool, true, false, true≢false}
-use mathlib.Core.List.{List, [], ◌∷◌, ◌++◌}
-use Prim.Native.Nat.{ℕ, zero, suc, ◌+◌, ◌≤◌, ◌<◌}
-use native.Mathlib.Omega.{arith}
-use lib.Dec.{eqb, ltb}
-use lib.ListN.{length}
-use borrow.Author.Tests.{ltb-true, ltb-false, eq-eqb}
+use Rattle.std.proofs.Common.{None, ◌≡◌, refl, sym, ◌∙◌, ap, subst₂, Bool, true, false, List, [], ◌∷◌, ◌++◌, ℕ, zero, suc, ◌+◌, ◌≤◌, ◌<◌, arith, eqb, ltb, length, ltb-true, ltb-false}
+use Rattle.std.proofs.lemmas.Bool.{eqb-false}
 use Rattle.base.specs.Test.{any}
-use Rattle.base.proofs.Tests.{when_false}
+use Rattle.base.proofs.Tests.{choices}
 use Rattle.layout.specs.Sections.{outside, entry}
 use Rattle.layout.specs.Rules.{accepted}
 use Rattle.alu.specs.Status.{gie}
@@ -25,11 +18,11 @@ use Rattle.definition.proofs.time.PassLaws.{pass_zero}
 use Rattle.definition.proofs.step.StepLaws.{after_reti, same_age}
 use Rattle.definition.proofs.separation.ViewLaws.{same_refl, same_sym}
 use Rattle.secrecy.specs.Sighting.{Sighting, sightings}
-use Rattle.secrecy.specs.Visit.{unended, Phase, away, visiting, unended_visit, visits}
+use Rattle.secrecy.specs.Visit.{unended, Phase, away, visiting, visits}
 use Rattle.secrecy.specs.Secrecy.{Premise, complete, Agree}
 use Rattle.secrecy.proofs.Chain.{end_of, moved, next, Chain, done, more}
 use Rattle.secrecy.proofs.Ways.{Steady, steady_next, InsideStep, return_time, ResetAtOnce, held_resets, away_resets}
-use Rattle.secrecy.proofs.Visiting.{move_of, sighting_at, left_end, reset_end, unseen, sighted, held_drops, held_goes, leaves, phase_at, resets_own, Good, good_away, good_held, away_previous, phase_entry, phase_away, silent}
+use Rattle.secrecy.proofs.Visiting.{move_of, sighting_at, left_end, unseen, sighted, held_drops, held_goes, leaves, resets_own, Good, good_away, good_held, away_previous, phase_entry, phase_away, silent}
 use Rattle.secrecy.proofs.Jump.{Emerges, inside_from, inside_emerges, jump}
 use Rattle.secrecy.proofs.Meet.{swapped, none_seen, premise_tail, Paired, both_away, both_leaving, both_held, InStep, Later, meet}
 use Rattle.secrecy.proofs.Abreast.{seen_alike, seen_resuming, Both, keep, both_reset, resume, same_pc, both_step, reset_view}
@@ -55,17 +48,14 @@ module _ (S : Setting) (fit : accepted S.layout ≡ true) (T : ℕ) where
       → is_reset s.outcome ≡ true
       → visits S r (move_of w s ∷ ws) ≡ visits S away ws
   barred_visits w s r ws h e o n z =
-      resets_own S r (move_of w s) ws (ap is_held h) o z
-      ∙ ap (λ (x : Phase). reset_end S x (move_of w s) ++ visits S away ws)
-      (ap (phase_at S w.state) e ∙ phase_away S w.state n)
+      rw (resets_own S r (move_of w s) ws (ap is_held h) o z, e, phase_away S w.state n)
 
   -- the visits of a step outside with none held
   open_visits : (w : World) (s : Step) (r x : Phase) (ws : List Move) → w.state.context ≡ None → r ≡ x
       → outside S.layout (pc w.state.registers) ≡ true
       → visits S r (move_of w s ∷ ws) ≡ left_end x (move_of w s) ++ visits S away ws
   open_visits w s r x ws h e o =
-      leaves S r (move_of w s) ws (ap is_held h) o
-      ∙ ap (λ (z : Phase). left_end z (move_of w s) ++ visits S away ws) e
+      rw (leaves S r (move_of w s) ws (ap is_held h) o, e)
 
   module _ (len : ℕ) (rec : Later S fit T len) (a b : World) (p q : Phase) (vs us : List Move) (y : InStep S a b p q)
       (ga : Good S a.state p) (gb : Good S b.state q) (ra : a.state.halted ≡ false) (rb : b.state.halted ≡ false)
@@ -112,7 +102,7 @@ module _ (S : Setting) (fit : accepted S.layout ≡ true) (T : ℕ) where
         seen_case s u o t (seen_alike S a b y.view s u x)
         (rec (world_after s) (world_after u) away away vs us c d (good_away S _ f i n) (good_away S _ g j n')
         (record { view = x.view; paired = both_away i j refl refl }) e l)
-    open_case s u f g c d h k o t e (resume r i r' i' x x' w w' z z' m m') = absurd (true≢false (ap is_held (sym x ∙ h)))
+    open_case s u f g c d h k o t e (resume r i r' i' x x' w w' z z' m m') = absurd (cc)
 
     -- both visits are dropped
     dropped : (s u : Step) (start start' j j' : ℕ) → is_held a.state.context ≡ true → is_held b.state.context ≡ true
@@ -120,8 +110,7 @@ module _ (S : Setting) (fit : accepted S.layout ≡ true) (T : ℕ) where
         → Premise T (visits S away vs) (visits S away us)
     dropped s u start start' j j' ha hb pa pb z z' e =
         premise_tail T (record { start = start; fate = unended }) (record { start = start'; fate = unended })
-        (held_drops S p (move_of a s) vs ha z ∙ ap (λ (w : Phase). unended_visit w ++ visits S away vs) pa)
-        (held_drops S q (move_of b u) us hb z' ∙ ap (λ (w : Phase). unended_visit w ++ visits S away us) pb) e
+        (rw (held_drops S p (move_of a s) vs ha z, pa)) (rw (held_drops S q (move_of b u) us hb z', pb)) e
 
     -- both resume the module
     resume_case : (s u : Step) → Steady S s.state → Steady S u.state → Chain S (world_after s) vs
@@ -139,14 +128,9 @@ module _ (S : Setting) (fit : accepted S.layout ≡ true) (T : ℕ) where
         (visits S (visiting start (k + i)) vs) (visits S (visiting start' (k + i')) us)
         (end_of (world_after s) vs) (end_of (world_after u) us)
         len (suc (length us))
-        (subst₂ (Premise T) (va ∙ ap (λ (w : Phase). visits S w vs) pa) (vb ∙ ap (λ (w : Phase). visits S w us) pb) e) rec
+        (rw (va, vb, pa, pb) at e) rec
         (resume_emerges ta k a.memory a.memory i start len s vs f c l (same_refl S _) x)
-        (subst
-        (λ (t : Time).
-        Emerges S T t k true a.memory (sightings S T us) (visits S (visiting start' (k + i')) us) (end_of (world_after u) us)
-        (suc (length us)))
-        (sym same)
-        (resume_emerges tb k a.memory b.memory i' start' (suc (length us)) u us g d (omega arith) y.view.memory x'))
+        (rw same (resume_emerges tb k a.memory b.memory i' start' (suc (length us)) u us g d (omega arith) y.view.memory x'))
 
     -- outside, a visit held
     held_case : (s u : Step) → Steady S s.state → Steady S u.state → Chain S (world_after s) vs
@@ -157,10 +141,9 @@ module _ (S : Setting) (fit : accepted S.layout ≡ true) (T : ℕ) where
     held_case s u f g c d r i r' i' start start' k ha hb pa pb o t e (keep x h h' n n' z z') =
         seen_case s u o t (seen_alike S a b y.view s u x)
         (rec (world_after s) (world_after u) p q vs us c d
-        (subst (Good S s.state) (sym pa) (good_held S _ f start _ r i (h ∙ ha)))
-        (subst (Good S u.state) (sym pb) (good_held S _ g start' _ r' i' (h' ∙ hb)))
+        (rw pa (good_held S _ f start _ r i (h ∙ ha))) (rw pb (good_held S _ g start' _ r' i' (h' ∙ hb)))
         (record { view = x.view; paired = both_held r i r' i' start start' k (h ∙ ha) (h' ∙ hb) pa pb })
-        (subst₂ (Premise T) (held_goes S p (move_of a s) vs (ap is_held ha) z) (held_goes S q (move_of b u) us (ap is_held hb) z') e) l)
+        (rw (held_goes S p (move_of a s) vs (ap is_held ha) z, held_goes S q (move_of b u) us (ap is_held hb) z') at e) l)
     held_case s u f g c d r i r' i' start start' k ha hb pa pb o t e (both_reset x h h' n n' z z') =
         seen_case s u o t (seen_alike S a b y.view s u x)
         (rec (world_after s) (world_after u) away away vs us c d (good_away S _ f h n) (good_away S _ g h' n')
@@ -169,8 +152,7 @@ module _ (S : Setting) (fit : accepted S.layout ≡ true) (T : ℕ) where
     held_case s u f g c d r i r' i' start start' k ha hb pa pb o t e (resume r₁ i₁ r₂ i₂ x x' z z' w w' m m') =
         seen_case s u o t (seen_resuming S a b y.view s u w w')
         (resume_case s u f g c d i₁ i₂ start start' k
-        (pa ∙ ap (λ (n : ℕ). visiting start (k + n)) (same_age _ _ _ _ (sym ha ∙ x)))
-        (pb ∙ ap (λ (n : ℕ). visiting start' (k + n)) (same_age _ _ _ _ (sym hb ∙ x')))
+        (cc (same_age _ _ _ _ (sym ha ∙ x))) (cc (same_age _ _ _ _ (sym hb ∙ x')))
         (held_goes S p (move_of a s) vs (ap is_held ha) z) (held_goes S q (move_of b u) us (ap is_held hb) z') e m m')
 
     -- two resets in code or data
@@ -211,13 +193,13 @@ module _ (S : Setting) (fit : accepted S.layout ≡ true) (T : ℕ) where
             phase = phase_entry S a.state p ha o n (away_previous S a.state p ga ha pa);
             memory = same_refl S _;
           })
-          l (λ o'. absurd (true≢false (sym o' ∙ o))))
+          l (λ o'. absurd (cc)))
           (jump S fit T t 0 g a.memory 0 b.state.time.clock (suc (suc (length us))) q (more rb cb) gb
           (record {
             context = hb;
             running = rb;
             time = sym y.view.time ∙ sym (pass_zero S t);
-            enabled = ap (λ (rs : List ℕ). gie (sr rs)) (sym y.view.registers);
+            enabled = cc y.view.registers;
             phase = phase_entry S b.state q hb (other false o)
                 (same_pc S fit a b y.view (λ (z : ℕ). eqb z (entry S.layout)) ∙ n) (away_previous S b.state q gb hb pb);
             memory = y.view.memory;
@@ -232,14 +214,11 @@ module _ (S : Setting) (fit : accepted S.layout ≡ true) (T : ℕ) where
           let n' = same_pc S fit a b y.view (λ (z : ℕ). eqb z (entry S.layout)) ∙ n in
           let previous = away_previous S a.state p ga ha pa in
           let previous' = away_previous S b.state q gb hb pb in
-          let fa = away_resets S fit a.state a.memory ra previous o (not_equal _ n) in
-          let fb = away_resets S fit b.state b.memory rb previous' (other false o) (not_equal _ n') in
+          let fa = away_resets S fit a.state a.memory ra previous o (eqb-false _ _ n) in
+          let fb = away_resets S fit b.state b.memory rb previous' (other false o) (eqb-false _ _ n') in
           reset_case _ _ fa fb after_a after_b ca cb o
           (subst₂ (Premise T)
           (barred_visits a _ p vs ha pa o n fa.outcome) (barred_visits b _ q us hb pb (other false o) n' fb.outcome) premise)
-        where
-          not_equal : (z : ℕ) → eqb z (entry S.layout) ≡ false → z ≡ entry S.layout → ⊥
-          not_equal z e f = true≢false (sym (eq-eqb z (entry S.layout) f) ∙ e)
 
       -- one step each
       step_case : a.state.time.clock ≤ T → Agreed
@@ -258,7 +237,7 @@ module _ (S : Setting) (fit : accepted S.layout ≡ true) (T : ℕ) where
               held_case _ _ after_a after_b ca cb r i r' i' s u k ha hb pa pb o t premise
               (both_step S fit a b y.view ga.steady gb.steady ra rb o)
           go false o (both_away ha hb pa pb) = shut_case _ refl ha hb pa pb o
-          go false o (both_leaving ha hb o' s j u k pa pb) = absurd (true≢false (sym o' ∙ o))
+          go false o (both_leaving ha hb o' s j u k pa pb) = absurd (cc)
           go false o (both_held r i r' i' s u k ha hb pa pb) =
               let fa = held_resets S fit a.state a.memory ra (ap is_held ha) o in
               let fb = held_resets S fit b.state b.memory rb (ap is_held hb) (other false o) in
@@ -277,17 +256,10 @@ module _ (S : Setting) (fit : accepted S.layout ≡ true) (T : ℕ) where
           (let x = ltb-true T a.state.time.clock t in let z = ap (λ (w : Time). w.clock) v.time in omega arith)
       go false t ws done = refl
       go false t ws (more r c) =
-          absurd (true≢false (sym k ∙ when_false _ _ _ t ∙ when_false _ _ _ (v.halted ∙ r)))
+          absurd (grind (arith, choices, v.halted))
 
   view_sym : (a b : World) → SameView S a b → SameView S b a
-  view_sym a b v =
-      record {
-        registers = sym v.registers;
-        time = sym v.time;
-        held = sym v.held;
-        halted = sym v.halted;
-        memory = same_sym S v.memory;
-      }
+  view_sym a b v = let m = same_sym S v.memory in grind arith
 
   -- one step of the induction
   longer_by_one : (len : ℕ) → Later S fit T len → Later S fit T (suc len)

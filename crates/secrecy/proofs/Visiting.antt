@@ -1,14 +1,7 @@
 -- Visits and sightings by a first step, one equation for each branch; a visit's least own cycles; silence above T. Assumes nothing.
-use Rattle.std.specs.Prelude.{Option, None, Some}
-use mathlib.Core.Path.{◌≡◌, refl, sym, ◌∙◌, ap, subst}
-use mathlib.Core.Bool.{Bool, true, false, not, true≢false}
-use mathlib.Core.List.{List, [], ◌∷◌, ◌++◌}
-use Prim.Native.Nat.{ℕ, ◌+◌, ◌≤◌, ◌<◌}
-use native.Mathlib.Omega.{arith}
-use lib.Dec.{eqb}
-use borrow.Author.Tests.{le-leb, lt-leb}
+use Rattle.std.proofs.Common.{Option, None, Some, ◌≡◌, refl, sym, ◌∙◌, ap, Bool, true, false, List, [], ◌∷◌, ◌++◌, ℕ, ◌+◌, ◌≤◌, ◌<◌, arith, eqb}
 use Rattle.base.specs.Test.{when◌then◌else◌, all}
-use Rattle.base.proofs.Tests.{every, when_true, when_false, choose, never, each}
+use Rattle.base.proofs.Tests.{choices}
 use Rattle.layout.specs.Sections.{inside, outside, entry}
 use Rattle.layout.specs.Rules.{accepted}
 use Rattle.definition.specs.Setting.{Setting}
@@ -24,7 +17,7 @@ use Rattle.definition.specs.Laws.{StepCycles}
 use Rattle.definition.proofs.step.CycleLaws.{step_cycles}
 use Rattle.definition.specs.Step.{judged}
 use Rattle.secrecy.specs.Sighting.{Sighting, view_of, sighting_of, begins_outside, sightings}
-use Rattle.secrecy.specs.Visit.{Way, leaving, own_reset, Fate, unended, ended, Visit, Phase, away, visiting, judged_cycles, own_cycles, starts_visit, entered, unended_visit, closed, longer, visits_by, visits, fate_at}
+use Rattle.secrecy.specs.Visit.{Way, leaving, own_reset, Fate, unended, ended, Visit, Phase, away, visiting, judged_cycles, own_cycles, starts_visit, unended_visit, closed, longer, visits_by, visits, fate_at}
 use Rattle.secrecy.proofs.Chain.{moved, Chain, done, more}
 use Rattle.secrecy.proofs.Ways.{Steady, steady_next, InsideStep, continued, broken_into, Service, kept, was_reset, resuming, Inner, failed, acted, inner_step, held_step}
 
@@ -38,28 +31,19 @@ move_of w s = record { before = w; after = s }
 abbrev pub sighting_at : Setting → Move → Sighting
 sighting_at S v = sighting_of (view_of S v.before) (view_of S (world_after v.after)) v.after.outcome
 
-first_false : (a b : Bool) → a ≡ false → all (a ∷ b ∷ []) ≡ false
-unfolding all
-first_false a b h = when_false _ _ _ h
-
-second_false : (a b : Bool) → b ≡ false → all (a ∷ b ∷ []) ≡ false
-unfolding all when◌then◌else◌
-second_false true b h = rw h
-second_false false b h = refl
-
 module _ (S : Setting) (T : ℕ) (v : Move) (vs : List Move) where
   pub unseen : begins_outside S v ≡ false → sightings S T (v ∷ vs) ≡ sightings S T vs
   unfolding sightings all
-  unseen o = when_false _ _ _ (when_false _ _ _ o)
+  unseen o = grind (arith, choices)
 
   unseen_late : T < v.before.state.time.clock → sightings S T (v ∷ vs) ≡ sightings S T vs
-  unfolding sightings
-  unseen_late h = when_false _ _ _ (second_false (begins_outside S v) _ (lt-leb _ _ h))
+  unfolding sightings all
+  unseen_late h = grind (arith, choices)
 
   pub sighted : begins_outside S v ≡ true → v.before.state.time.clock ≤ T
       → sightings S T (v ∷ vs) ≡ sighting_at S v ∷ sightings S T vs
-  unfolding sightings
-  sighted o h = when_true _ _ _ (every _ (o, (le-leb _ _ h, tt)))
+  unfolding sightings all
+  sighted o h = grind (arith, choices)
 
 -- ---- the visits of a first step
 
@@ -80,36 +64,27 @@ module _ (S : Setting) (p : Phase) (v : Move) (vs : List Move) where
   pub held_drops : is_held v.before.state.context ≡ true → is_reset v.after.outcome ≡ true
       → visits S p (v ∷ vs) ≡ unended_visit p ++ visits S away vs
   unfolding visits_by
-  held_drops h r = when_true _ _ _ h ∙ when_true _ _ _ r
+  held_drops h r = grind (arith, choices)
 
   pub held_goes : is_held v.before.state.context ≡ true → is_reset v.after.outcome ≡ false
       → visits S p (v ∷ vs) ≡ visits S p vs
   unfolding visits_by
-  held_goes h r = when_true _ _ _ h ∙ when_false _ _ _ r
+  held_goes h r = grind (arith, choices)
 
   pub leaves : is_held v.before.state.context ≡ false → begins_outside S v ≡ true
       → visits S p (v ∷ vs) ≡ left_end p v ++ visits S away vs
   unfolding visits_by
-  leaves h o = when_false _ _ _ h ∙ when_true _ _ _ o
-
-  entered_at : is_held v.before.state.context ≡ false → begins_outside S v ≡ false
-      → phase_at S v.before.state p ≡ entered S v p
-  unfolding phase_at
-  entered_at h o = when_false _ _ _ h ∙ when_false _ _ _ o
+  leaves h o = grind (arith, choices)
 
   pub resets_own : is_held v.before.state.context ≡ false → begins_outside S v ≡ false → is_reset v.after.outcome ≡ true
       → visits S p (v ∷ vs) ≡ reset_end S (phase_at S v.before.state p) v ++ visits S away vs
-  unfolding visits_by
-  resets_own h o r =
-      when_false _ _ _ h ∙ when_false _ _ _ o ∙ when_true _ _ _ r
-      ∙ ap (λ (q : Phase). reset_end S q v ++ visits S away vs) (sym (entered_at h o))
+  unfolding visits_by phase_at
+  resets_own h o r = grind (arith, choices)
 
   pub inner_goes : is_held v.before.state.context ≡ false → begins_outside S v ≡ false → is_reset v.after.outcome ≡ false
       → visits S p (v ∷ vs) ≡ visits S (longer (phase_at S v.before.state p) (own_cycles S v)) vs
-  unfolding visits_by
-  inner_goes h o r =
-      when_false _ _ _ h ∙ when_false _ _ _ o ∙ when_false _ _ _ r
-      ∙ ap (λ (q : Phase). visits S (longer q (own_cycles S v)) vs) (sym (entered_at h o))
+  unfolding visits_by phase_at
+  inner_goes h o r = grind (arith, choices)
 
 -- ---- a machine and its phase
 
@@ -127,68 +102,53 @@ pub record Good (S : Setting) (m : State) (p : Phase) : Type 0 where
 module _ (S : Setting) (m : State) (steady : Steady S m) where
   pub good_away : m.context ≡ None → inside S.layout m.previous ≡ false → Good S m away
   unfolding InPhase
-  good_away h n = record { steady = steady; phase = subst (λ (v : Option SavedContext). InPhase S v m.previous away) (sym h) n }
+  good_away h n = record { steady = steady; phase = rw h n }
 
   pub good_held : (start own previous age : ℕ) → m.context ≡ held_visit previous age → Good S m (visiting start own)
   unfolding InPhase
-  good_held start own previous age h =
-      record { steady = steady; phase = subst (λ (v : Option SavedContext). InPhase S v m.previous (visiting start own)) (sym h) tt }
+  good_held start own previous age h = record { steady = steady; phase = rw h tt }
 
   pub good_inner : (start own : ℕ) → m.context ≡ None → inside S.layout m.previous ≡ true → Good S m (visiting start own)
   unfolding InPhase
-  good_inner start own h n =
-      record { steady = steady; phase = subst (λ (v : Option SavedContext). InPhase S v m.previous (visiting start own)) (sym h) n }
+  good_inner start own h n = record { steady = steady; phase = rw h n }
 
 -- no visit goes on: the previous address is not inside
 pub away_previous : (S : Setting) (m : State) (p : Phase) → Good S m p → m.context ≡ None → p ≡ away
     → inside S.layout m.previous ≡ false
 unfolding InPhase
-away_previous S m p g h e =
-    subst (λ (v : Option SavedContext). InPhase S v m.previous away) h (subst (InPhase S m.context m.previous) e g.phase)
+away_previous S m p g h e = rw (h, e) at g.phase
 
 module _ (S : Setting) (m : State) where
   pub phase_held : (p : Phase) → is_held m.context ≡ true → phase_at S m p ≡ p
   unfolding phase_at
-  phase_held p h = when_true _ _ _ h
+  phase_held p h = grind (arith, choices)
 
   pub phase_outside : (p : Phase) → outside S.layout (pc m.registers) ≡ true → phase_at S m p ≡ p
   unfolding phase_at
-  phase_outside p o = choose (λ (q : Phase). q ≡ p) _ (λ e. refl) (λ e. when_true _ _ _ o)
+  phase_outside p o = grind (arith, choices)
 
   phase_inner : (p : Phase) → inside S.layout m.previous ≡ true → phase_at S m p ≡ p
-  unfolding phase_at
-  phase_inner p i =
-      choose (λ (q : Phase). q ≡ p) _ (λ e. refl)
-      (λ e. choose (λ (q : Phase). q ≡ p) _ (λ f. refl) (λ f. when_false _ _ _ (never _ (λ (s : starts_visit S m ≡ true). true≢false (sym (each _ s).1.1.0 ∙ ap not i)))))
+  unfolding phase_at all
+  phase_inner p i = grind (arith, choices)
 
   -- a visit that goes on is not started anew
   pub phase_visiting : (start own : ℕ) → InPhase S m.context m.previous (visiting start own)
       → phase_at S m (visiting start own) ≡ visiting start own
-  phase_visiting start own h = go m.context refl h
-    where
-      go : (v : Option SavedContext) → m.context ≡ v → InPhase S v m.previous (visiting start own)
-          → phase_at S m (visiting start own) ≡ visiting start own
-      go None e i = unfold InPhase in phase_inner _ i
-      go (Some _) e i = phase_held _ (ap is_held e)
+  unfolding InPhase
+  phase_visiting start own h = grind (arith, phase_inner (visiting start own), phase_held (visiting start own))
 
   -- the entry starts one
   pub phase_entry : (p : Phase) → m.context ≡ None → outside S.layout (pc m.registers) ≡ false → eqb (pc m.registers) (entry S.layout) ≡ true
       → inside S.layout m.previous ≡ false → phase_at S m p ≡ visiting m.time.clock 0
-  unfolding phase_at
-  phase_entry p h o e n = when_false _ _ _ (ap is_held h) ∙ when_false _ _ _ o ∙ when_true _ _ _ (every _ (ap (λ (v : Option SavedContext). not (is_held v)) h, (e, (ap not n, tt))))
+  unfolding phase_at all
+  phase_entry p h o e n = grind (arith, choices)
 
   -- elsewhere none starts
   pub phase_away : eqb (pc m.registers) (entry S.layout) ≡ false → phase_at S m away ≡ away
-  unfolding phase_at
-  phase_away e =
-      choose (λ (q : Phase). q ≡ away) _ (λ f. refl)
-      (λ f. choose (λ (q : Phase). q ≡ away) _ (λ g. refl) (λ g. when_false _ _ _ (never _ (λ (s : starts_visit S m ≡ true). true≢false (sym (each _ s).1.0 ∙ e)))))
+  unfolding phase_at all
+  phase_away e = grind (arith, choices)
 
 -- ---- the visits of a step in code or data, none being held, by its own cycles
-
--- the own cycles of a step are those of what it is judged, whatever it waits
-own_judged : (S : Setting) (w : World) (s : Step) → own_cycles S (move_of w s) ≡ judged_cycles (judged S w)
-own_judged S w s = refl
 
 module _ (S : Setting) (w : World) (s : Step) (p : Phase) (vs : List Move) (start own n : ℕ)
     (h : w.state.context ≡ None) (o : outside S.layout (pc w.state.registers) ≡ false)
@@ -199,18 +159,10 @@ module _ (S : Setting) (w : World) (s : Step) (p : Phase) (vs : List Move) (star
         start = start;
         fate = ended (record { clock = s.state.time.clock; own = own + n; way = own_reset; registers = s.state.registers });
       } ∷ visits S away vs
-  reset_visit r =
-      resets_own S p (move_of w s) vs (ap is_held h) o r
-      ∙ ap (λ (q : Phase). reset_end S q (move_of w s) ++ visits S away vs) e
-      ∙ ap
-      (λ (x : ℕ). closed (visiting start own) s.state.time.clock x own_reset s.state.registers ++ visits S away vs)
-      (own_judged S w s ∙ f)
+  reset_visit r = rw (resets_own S p (move_of w s) vs (ap is_held h) o r, e, f)
 
   pub continued_visit : is_reset s.outcome ≡ false → visits S p (move_of w s ∷ vs) ≡ visits S (visiting start (own + n)) vs
-  continued_visit r =
-      inner_goes S p (move_of w s) vs (ap is_held h) o r
-      ∙ ap (λ (q : Phase). visits S (longer q (own_cycles S (move_of w s))) vs) e
-      ∙ ap (λ (x : ℕ). visits S (visiting start (own + x)) vs) (own_judged S w s ∙ f)
+  continued_visit r = rw (inner_goes S p (move_of w s) vs (ap is_held h) o r, e, f)
 
 -- ---- the least own cycles
 
@@ -226,8 +178,7 @@ Least own (ended e) = own + way_cycles e.way ≤ e.own
 
 least_less : (i j : ℕ) (f : Fate) → i ≤ j → Least j f → Least i f
 unfolding Least
-least_less i j unended h k = tt
-least_less i j (ended e) h k = omega arith
+least_less i j f h k = grind arith
 
 module _ (S : Setting) where
   -- one step of a visit: it ends, or it goes on
@@ -282,11 +233,9 @@ module _ (S : Setting) where
         go : (h : Option SavedContext) → w.state.context ≡ h → (b : Bool) → outside S.layout (pc w.state.registers) ≡ b
             → Course S w p vs start own (step_of S w)
         go (Some visit) h b o =
-            subst (λ (x : Phase). Course S w x vs start own (step_of S w)) (sym e ∙ phase_held S w.state p (ap is_held h))
-            (held_course w vs start own _ after visit.previous visit.age h (held_step S fit w.state w.memory g.steady r (ap is_held h)))
+            rw (sym (phase_held S w.state p (ap is_held h)) ∙ e) (held_course w vs start own _ after visit.previous visit.age h (held_step S fit w.state w.memory g.steady r (ap is_held h)))
         go None h true o =
-            subst (λ (x : Phase). Course S w x vs start own (step_of S w)) (sym e ∙ phase_outside S w.state p o)
-            (left_course w vs start own _ after h o)
+            rw (sym (phase_outside S w.state p o) ∙ e) (left_course w vs start own _ after h o)
         go None h false o =
             inner_course w vs start own _ after p h o e (inner_step S fit w.state w.memory g.steady r h o)
 

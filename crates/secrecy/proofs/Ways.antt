@@ -1,16 +1,11 @@
 -- How one step goes, seen from the visits, as data types of few cases. Assumes nothing.
-use Rattle.std.specs.Prelude.{None, Some, Ok}
-use mathlib.Core.Path.{◌≡◌, refl, sym, ◌∙◌, ap}
-use mathlib.Core.Bool.{Bool, true, false, true≢false}
-use mathlib.Core.List.{List}
-use Prim.Native.Nat.{ℕ, ◌+◌, ◌-◌, ◌≤◌, ◌<◌, min}
-use native.Mathlib.Omega.{arith}
-use Rattle.base.proofs.Tests.{cases, choose}
+use Rattle.std.proofs.Common.{None, Some, Ok, ◌≡◌, refl, sym, ap, Bool, true, false, List, ℕ, ◌+◌, ◌-◌, ◌≤◌, ◌<◌, min, arith}
+use Rattle.base.proofs.Tests.{choose}
 use Rattle.isa.specs.declared.instruction.Instruction.{Instruction}
 use Rattle.isa.specs.declared.instruction.Instruction.TheVariants.{Reti}
 use Rattle.isa.specs.Cycles.{cycles_of}
 use Rattle.layout.specs.declared.sections.Section.{Section}
-use Rattle.layout.specs.declared.sections.Section.TheVariants.{Outside, Code, Data}
+use Rattle.layout.specs.declared.sections.Section.TheVariants.{Data}
 use Rattle.layout.specs.Sections.{is_code, is_outside, inside, outside, entry}
 use Rattle.layout.specs.Rules.{accepted}
 use Rattle.layout.proofs.SectionLaws.{section_outside, outside_not_inside}
@@ -104,16 +99,16 @@ module _ (S : Setting) where
     check_continues : (o : Outcome) → is_reset o ≡ false → x.context ≡ None → x.halted ≡ false → inside S.layout x.previous ≡ true
         → InsideStep t g mem n (gives x mem' o)
     check_continues o r v h p =
-        continued (record { time = time; context = v; running = h; enabled = enabled; previous = p; memory = memory; outcome = r })
+        continued (grind arith)
 
     check_breaks_in : (stamp : ℕ) → due x ≡ Some stamp → InsideStep t g mem n (padded S stamp x mem')
     unfolding padded age_of PaddedByStamp
     check_breaks_in stamp d =
         let e = due_at x stamp d in
-        let on : g ≡ true = sym enabled ∙ e.0 in
-        let filled : (pass S n t).slot ≡ Some stamp = ap (λ (z : Time). z.slot) (sym time) ∙ e.1 in
+        let on : g ≡ true = cc in
+        let filled : (pass S n t).slot ≡ Some stamp = cc in
         let w = pass_filled S n t stamp (empty on) filled in
-        let c : x.time.clock ≡ t.clock + n = ap (λ (z : Time). z.clock) time ∙ pass_clock S n t in
+        let c : x.time.clock ≡ t.clock + n = cc (pass_clock S n t) in
         broken_into stamp on
         (record {
           slot = filled;
@@ -163,18 +158,14 @@ return_time S m n e = ap (pass S (cycles_of Reti)) e
 -- ---- where an instruction acts
 
 neither : (s : Section) → is_outside s ≡ false → is_code s ≡ false → s ≡ Data
-neither Outside o c = cc
-neither Code o c = cc
-neither Data o c = refl
+neither s o c = grind arith
 
 module _ (S : Setting) (fit : accepted S.layout ≡ true) (m : State) (mem : List ℕ) where
   -- in code or data only code
   pub acting_inside : (i : Instruction) → outside S.layout (pc m.registers) ≡ false → judged S (world m mem) ≡ Ok i
       → inside S.layout (pc m.registers) ≡ true
   unfolding inside outside
-  acting_inside i o e =
-      cases (inside S.layout (pc m.registers)) (λ h. h)
-      (λ h. absurd (true≢false (sym (acts_executable S.layout _ _ mem _ i e) ∙ data_not_executed S.layout m.previous _ (neither _ o h))))
+  acting_inside i o e = grind (arith, neither _ o, acts_executable S.layout _ _ mem _ i e, data_not_executed S.layout m.previous)
 
   -- outside, or while a visit is held, nothing inside
   pub acting_outside : outside S.layout (pc m.registers) ≡ true → (i : Instruction) → judged S (world m mem) ≡ Ok i
@@ -182,13 +173,11 @@ module _ (S : Setting) (fit : accepted S.layout ≡ true) (m : State) (mem : Lis
   acting_outside o i e = outside_not_inside S.layout _ o
 
   pub acting_held : is_held m.context ≡ true → (i : Instruction) → judged S (world m mem) ≡ Ok i → inside S.layout (pc m.registers) ≡ false
-  acting_held h i e =
-      cases (inside S.layout (pc m.registers))
-      (λ n. absurd (true≢false (sym h ∙ acts_unheld S.layout _ _ mem _ i e n))) (λ n. n)
+  acting_held h i e = grind (arith, acts_unheld S.layout _ _ mem _ i e)
 
   -- while a visit is held nothing in code or data acts
   none_held : is_held m.context ≡ true → outside S.layout (pc m.registers) ≡ false → (i : Instruction) → judged S (world m mem) ≡ Ok i → ⊥
-  none_held h o i e = true≢false (sym (acting_inside i o e) ∙ acting_held h i e)
+  none_held h o i e = cc (acting_inside i o e, acting_held h i e)
 
   -- from elsewhere nothing in code or data acts but the entry
   none_away : inside S.layout m.previous ≡ false → outside S.layout (pc m.registers) ≡ false → (pc m.registers ≡ entry S.layout → ⊥)
@@ -199,16 +188,7 @@ module _ (S : Setting) (fit : accepted S.layout ≡ true) (m : State) (mem : Lis
 
   reset_at_once : (c : Cause) → ResetAtOnce S m mem (reset S c m mem)
   unfolding reset
-  reset_at_once c =
-      record {
-        registers = refl;
-        previous = vector_free S fit;
-        time = refl;
-        context = refl;
-        running = refl;
-        memory = refl;
-        outcome = refl;
-      }
+  reset_at_once c = grind (arith, vector_free S fit)
 
   resets_at_once : ((i : Instruction) → judged S (world m mem) ≡ Ok i → ⊥) → (s : Step) → Way S m mem s → ResetAtOnce S m mem s
   resets_at_once none s (resets c e) = reset_at_once c
@@ -233,7 +213,7 @@ module _ (S : Setting) (fit : accepted S.layout ≡ true) (m : State) (mem : Lis
     service_of s (halts i e h) = kept refl (elsewhere i e) refl refl
     service_of s (runs i r d) = kept refl (elsewhere i r.acting) refl refl
     service_of s (serves i u r n d) = plain_serves _ _ refl
-    service_of s (pads i u r n d) = absurd (true≢false (sym n ∙ elsewhere i r.acting))
+    service_of s (pads i u r n d) = absurd (cc (elsewhere i r.acting))
     service_of s (chains p a u r e) = kept (sym r.holding) (vector_free S fit) refl refl
     service_of s (returns p a r e d) =
         let h = held_framed S m p a steady.frame r.holding in
@@ -253,29 +233,26 @@ module _ (S : Setting) (fit : accepted S.layout ≡ true) (m : State) (mem : Lis
     confined i e = inside_confined S m mem i fit (acting_inside i o e) free e
 
     few : (i : Instruction) → cycles_of i ≤ 6
-    few i = let c = (cycles_range i).1 in omega arith
-
-    not_held : {A : Type 0} (previous age : ℕ) → m.context ≡ held_visit previous age → A
-    not_held previous age h = absurd (true≢false (sym (ap is_held h) ∙ ap is_held free))
+    few i = omega (arith, cycles_range)
 
     inner_of : (s : Step) → Way S m mem s → Inner S m mem s
     inner_of s (resets c e) = failed (ap judged_cycles e) (reset_at_once c)
-    inner_of s (halts i e h) = absurd (true≢false (sym h ∙ (runs_inside S m mem i e (acting_inside i o e)).going))
+    inner_of s (halts i e h) = absurd (cc (runs_inside S m mem i e (acting_inside i o e)).going)
     inner_of s (runs i r d) =
         let c = confined i r.acting in
         acted (cycles_of i) (ap judged_cycles r.acting)
         (check_continues S m.time _ mem (cycles_of i) (next S m mem i) _ (few i) (steady.nothing_due running)
         c.time c.enabled c.memory _ refl (unfold executed in free) (unfold executed in r.going)
         (unfold executed in acting_inside i o r.acting))
-    inner_of s (serves i u r n d) = absurd (true≢false (sym (acting_inside i o r.acting) ∙ n))
+    inner_of s (serves i u r n d) = absurd (cc (acting_inside i o r.acting))
     inner_of s (pads i u r n d) =
         let c = confined i r.acting in
         acted (cycles_of i) (ap judged_cycles r.acting)
         (check_breaks_in S m.time _ mem (cycles_of i) (next S m mem i) _ (few i) (steady.nothing_due running)
         c.time c.enabled c.memory u d)
-    inner_of s (chains p a u r e) = not_held p a r.holding
-    inner_of s (returns p a r e d) = not_held p a r.holding
-    inner_of s (pads_again p a u r e d) = not_held p a r.holding
+    inner_of s (chains p a u r e) = absurd (cc)
+    inner_of s (returns p a r e d) = absurd (cc)
+    inner_of s (pads_again p a u r e d) = absurd (cc)
 
     pub inner_step : Inner S m mem (step S m mem)
     inner_step = inner_of _ (way S m mem running)

@@ -1,7 +1,7 @@
 -- The visits of a run, in the order of their starts, each with its end if it has one.
+use Rattle.std.specs.Prelude.{ℕ, zero, suc, ◌+◌, Bool, false, not, List, [], ◌∷◌, ◌++◌, leb, eqb, Result, Ok, Err}
 use Rattle.answers.specs.declared.answer.Cause.{Cause}
 use Rattle.isa.specs.declared.instruction.Instruction.{Instruction}
-use Rattle.std.specs.Prelude.{ℕ, zero, suc, ◌+◌, Bool, false, not, List, [], ◌∷◌, ◌++◌, leb, eqb, Result, Ok, Err}
 use Rattle.base.specs.Test.{when◌then◌else◌, all}
 use Rattle.isa.specs.Cycles.{cycles_of}
 use Rattle.layout.specs.Sections.{entry, inside}

@@ -1,9 +1,5 @@
 -- The example of two machines, computed. Assumes nothing.
-use mathlib.Core.Path.{◌≡◌, refl, sym, ap, subst₂}
-use mathlib.Core.Bool.{true}
-use mathlib.Core.List.{List, [], ◌∷◌, ◌++◌}
-use Prim.Native.Nat.{ℕ}
-use lib.ListN.{length}
+use Rattle.std.proofs.Common.{◌≡◌, refl, sym, ap, subst₂, true, List, [], ◌∷◌, ◌++◌, ℕ, length}
 use Rattle.layout.specs.Sections.{outside}
 use Rattle.answers.specs.declared.answer.Outcome.TheVariants.{Ran, Back}
 use Rattle.definition.specs.Memory.{byte_at}

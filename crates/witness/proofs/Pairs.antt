@@ -1,12 +1,8 @@
 -- Two machines written out, whose visits are so related and whose sightings differ, refute secrecy. Assumes nothing.
-use mathlib.Core.Path.{◌≡◌, refl, sym, ◌∙◌, ap, subst₂}
-use mathlib.Core.Bool.{Bool, true, false, true≢false, false≢true}
-use mathlib.Core.List.{List, [], ◌∷◌}
-use Prim.Native.Nat.{ℕ, zero, suc}
-use lib.Dec.{eqb}
-use borrow.Author.Tests.{eq-eqb}
+use Rattle.std.proofs.Common.{◌≡◌, refl, sym, ◌∙◌, ap, subst₂, Bool, true, false, true≢false, List, [], ◌∷◌, ℕ, zero, suc, eqb, arith}
+use Rattle.std.proofs.lemmas.Bool.Decides.{nat_tests}
 use Rattle.base.specs.Test.{when◌then◌else◌, any}
-use Rattle.base.proofs.Tests.{when_true}
+use Rattle.base.proofs.Tests.{choices}
 use Rattle.layout.specs.declared.sections.Layout.{Layout}
 use Rattle.layout.specs.Rules.{accepted}
 use Rattle.definition.specs.Setting.{Setting}
@@ -86,15 +82,14 @@ seen_equal : (number : View → ℕ) (xs ys : List Sighting) → AgreeAsFar xs y
 unfolding seen_by equal_as_far
 seen_equal number [] ys h = refl
 seen_equal number (x ∷ xs) [] h = refl
-seen_equal number (x ∷ xs) (y ∷ ys) h =
-    when_true _ _ _ (eq-eqb _ _ (ap (λ (z : Sighting). number (view_before z)) h.0)) ∙ seen_equal number xs ys h.1
+seen_equal number (x ∷ xs) (y ∷ ys) h = grind (arith, choices, nat_tests, seen_equal number xs ys)
 
 -- one visit each, ended so related
 pub one_visit : (Related : VisitEnd → VisitEnd → Type 0) (T s u : ℕ) (e f : VisitEnd) → Related e f
     → EndsRelated Related T (record { start = s; fate = ended e } ∷ []) (record { start = u; fate = ended f } ∷ [])
-unfolding any when◌then◌else◌
+unfolding any
 one_visit Related T s u e f r zero h = r
-one_visit Related T s u e f r (suc k) h = absurd (false≢true h)
+one_visit Related T s u e f r (suc k) h = grind (arith, choices)
 
 -- with all that the premise asks it is secrecy itself
 with_all : Secrecy → SecrecyBy own_cycles EqualEnds

@@ -1,13 +1,11 @@
 -- Waits are not own cycles: a request breaks into NOP at once, into MOV #0 7 a cycle later, and the wait is shorter. Assumes nothing.
-use mathlib.Core.Path.{◌≡◌, refl}
-use mathlib.Core.List.{[], ◌∷◌}
-use Prim.Native.Nat.{ℕ}
+use Rattle.std.proofs.Common.{refl, [], ◌∷◌, ℕ}
 use Rattle.secrecy.specs.Visit.{leaving, VisitEnd, ended}
 use Rattle.secrecy.specs.Secrecy.{EqualEnds}
 use Rattle.definition.specs.Setting.{setting_of}
 use Rattle.witness.specs.Lines.{M}
 use Rattle.witness.specs.Needed.{cycles_and_waits, WaitsNotOwn}
-use Rattle.witness.proofs.Pairs.{Pair, pair_layout, Shown, shown, clock_seen, shown_computes, equal_as_far, one_visit, refuted}
+use Rattle.witness.proofs.Pairs.{Pair, pair_layout, Shown, clock_seen, shown_computes, equal_as_far, one_visit, refuted}
 
 -- outside: MOV #0008 2 sets GIE, MOV #0040 0 enters the module, HLT at 0010, RETI at 0020; a module is NOP or MOV #0 7, then
 -- MOV #0010 0. A request at stamp 5: the one waits 12 cycles, the other 11, and a cycle on its return
@@ -37,16 +35,8 @@ abbrev shows : ℕ → Shown
 shows clock =
     record { visits = record { start = 4; fate = ended (end_at clock) } ∷ []; seen = 0 ∷ 2 ∷ 17 ∷ clock ∷ [] }
 
-shown_a : shown cycles_and_waits clock_seen pair pair.module_a ≡ shows 24
-unfolding shown_computes pair
-shown_a = refl
-
-shown_b : shown cycles_and_waits clock_seen pair pair.module_b ≡ shows 25
-unfolding shown_computes pair
-shown_b = refl
-
 pub waits_not_own : WaitsNotOwn
 unfolding WaitsNotOwn shown_computes pair equal_as_far
 waits_not_own =
-    refuted cycles_and_waits EqualEnds clock_seen pair (shows 24) (shows 25) refl refl refl shown_a shown_b
+    refuted cycles_and_waits EqualEnds clock_seen pair (shows 24) (shows 25) refl refl refl refl refl
     (one_visit EqualEnds 100 4 4 (end_at 24) (end_at 25) (refl, refl, refl)) refl

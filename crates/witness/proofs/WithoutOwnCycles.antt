@@ -1,12 +1,10 @@
 -- Own cycles are needed: two modules that leave alike, one a NOP later. Assumes nothing.
-use mathlib.Core.Path.{◌≡◌, refl}
-use mathlib.Core.List.{[], ◌∷◌}
-use Prim.Native.Nat.{ℕ}
+use Rattle.std.proofs.Common.{refl, [], ◌∷◌, ℕ}
 use Rattle.secrecy.specs.Visit.{leaving, VisitEnd, ended, own_cycles}
 use Rattle.definition.specs.Setting.{setting_of}
 use Rattle.witness.specs.Lines.{M}
 use Rattle.witness.specs.Needed.{EqualButOwn, OwnCyclesNeeded}
-use Rattle.witness.proofs.Pairs.{Pair, pair_layout, Shown, shown, clock_seen, shown_computes, equal_as_far, one_visit, refuted}
+use Rattle.witness.proofs.Pairs.{Pair, pair_layout, Shown, clock_seen, shown_computes, equal_as_far, one_visit, refuted}
 
 -- outside: MOV #0040 0 enters the module, HLT at 0010; one module is MOV #0010 0, the other NOP and the same
 unfoldable pair : Pair
@@ -34,16 +32,8 @@ abbrev shows : ℕ → ℕ → Shown
 shows clock own =
     record { visits = record { start = 2; fate = ended (end_after clock own) } ∷ []; seen = 0 ∷ clock ∷ [] }
 
-shown_a : shown own_cycles clock_seen pair pair.module_a ≡ shows 4 2
-unfolding shown_computes pair
-shown_a = refl
-
-shown_b : shown own_cycles clock_seen pair pair.module_b ≡ shows 5 3
-unfolding shown_computes pair
-shown_b = refl
-
 pub own_cycles_needed : OwnCyclesNeeded
 unfolding OwnCyclesNeeded shown_computes pair equal_as_far
 own_cycles_needed =
-    refuted own_cycles EqualButOwn clock_seen pair (shows 4 2) (shows 5 3) refl refl refl shown_a shown_b
+    refuted own_cycles EqualButOwn clock_seen pair (shows 4 2) (shows 5 3) refl refl refl refl refl
     (one_visit EqualButOwn 100 2 2 (end_after 4 2) (end_after 5 3) (refl, refl)) refl

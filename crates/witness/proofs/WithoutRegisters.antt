@@ -1,14 +1,12 @@
 -- Registers are needed: two modules that leave alike, but for r5. Assumes nothing.
-use mathlib.Core.Path.{◌≡◌, refl}
-use mathlib.Core.List.{[], ◌∷◌}
-use Prim.Native.Nat.{ℕ}
+use Rattle.std.proofs.Common.{refl, [], ◌∷◌, ℕ}
 use Rattle.definition.specs.Setting.{setting_of}
 use Rattle.definition.specs.Registers.{register}
 use Rattle.secrecy.specs.Sighting.{View}
 use Rattle.secrecy.specs.Visit.{leaving, VisitEnd, ended, own_cycles}
 use Rattle.witness.specs.Lines.{M}
 use Rattle.witness.specs.Needed.{EqualButRegisters, RegistersNeeded}
-use Rattle.witness.proofs.Pairs.{Pair, pair_layout, Shown, shown, shown_computes, equal_as_far, one_visit, refuted}
+use Rattle.witness.proofs.Pairs.{Pair, pair_layout, Shown, shown_computes, equal_as_far, one_visit, refuted}
 
 -- outside: MOV #0040 0 enters the module, HLT at 0010; a module is MOV #0 5 or MOV #1 5, then MOV #0010 0
 unfoldable pair : Pair
@@ -39,16 +37,8 @@ end_with r5 =
 abbrev shows : ℕ → Shown
 shows r5 = record { visits = record { start = 2; fate = ended (end_with r5) } ∷ []; seen = 0 ∷ r5 ∷ [] }
 
-shown_a : shown own_cycles r5_seen pair pair.module_a ≡ shows 0
-unfolding shown_computes pair
-shown_a = refl
-
-shown_b : shown own_cycles r5_seen pair pair.module_b ≡ shows 1
-unfolding shown_computes pair
-shown_b = refl
-
 pub registers_needed : RegistersNeeded
 unfolding RegistersNeeded shown_computes pair equal_as_far
 registers_needed =
-    refuted own_cycles EqualButRegisters r5_seen pair (shows 0) (shows 1) refl refl refl shown_a shown_b
+    refuted own_cycles EqualButRegisters r5_seen pair (shows 0) (shows 1) refl refl refl refl refl
     (one_visit EqualButRegisters 100 2 2 (end_with 0) (end_with 1) (refl, refl)) refl

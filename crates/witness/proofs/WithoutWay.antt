@@ -1,14 +1,11 @@
 -- The way is needed: one module leaves for the reset vector's address, one resets, and a request is pending. Assumes nothing.
-use Rattle.std.specs.Prelude.{Option, None, Some}
-use mathlib.Core.Path.{◌≡◌, refl}
-use mathlib.Core.List.{[], ◌∷◌}
-use Prim.Native.Nat.{ℕ}
+use Rattle.std.proofs.Common.{Option, None, Some, refl, [], ◌∷◌, ℕ}
 use Rattle.definition.specs.Setting.{setting_of}
 use Rattle.secrecy.specs.Sighting.{View}
 use Rattle.secrecy.specs.Visit.{Way, leaving, own_reset, VisitEnd, ended, own_cycles}
 use Rattle.witness.specs.Lines.{M}
 use Rattle.witness.specs.Needed.{EqualButWay, WayNeeded}
-use Rattle.witness.proofs.Pairs.{Pair, pair_layout, Shown, shown, shown_computes, equal_as_far, one_visit, refuted}
+use Rattle.witness.proofs.Pairs.{Pair, pair_layout, Shown, shown_computes, equal_as_far, one_visit, refuted}
 
 -- outside: MOV #0040 0 at the reset vector's address 0000, GIE clear; one module is NOP, NOP, JMP &5, the other 0000, which does not
 -- decode: four cycles each. A request at stamp 3. The clock value is that of the ends, so that no later visit is asked
@@ -49,16 +46,8 @@ shows_left = record { visits = record { start = 2; fate = ended (end_by leaving)
 abbrev shows_reset : Shown
 shows_reset = record { visits = record { start = 2; fate = ended (end_by own_reset) } ∷ []; seen = 0 ∷ 0 ∷ [] }
 
-shown_a : shown own_cycles slot_seen pair pair.module_a ≡ shows_left
-unfolding shown_computes pair
-shown_a = refl
-
-shown_b : shown own_cycles slot_seen pair pair.module_b ≡ shows_reset
-unfolding shown_computes pair
-shown_b = refl
-
 pub way_needed : WayNeeded
 unfolding WayNeeded shown_computes pair equal_as_far
 way_needed =
-    refuted own_cycles EqualButWay slot_seen pair shows_left shows_reset refl refl refl shown_a shown_b
+    refuted own_cycles EqualButWay slot_seen pair shows_left shows_reset refl refl refl refl refl
     (one_visit EqualButWay 6 2 2 (end_by leaving) (end_by own_reset) (refl, refl)) refl

@@ -1,11 +1,9 @@
 -- What an instruction that acts has passed: none of the eight causes holds. Assumes nothing.
-use Rattle.answers.specs.declared.answer.Cause.{Cause}
-use Rattle.std.proofs.Common.{◌≡◌, refl, sym, ◌∙◌, subst, Bool, true, false, true≢false, List, [], ◌∷◌, ℕ, Option, None, Some, Result, Ok, Err}
-use Rattle.std.proofs.lemmas.Bool.{not-false}
+use Rattle.std.proofs.Common.{◌≡◌, Bool, true, false, List, [], ◌∷◌, ℕ, Option, Result, Ok, Err, arith}
 use Rattle.base.specs.declared.refusal.Refusal.{Refusal}
-use Rattle.base.specs.Test.{when◌then◌else◌, all}
-use Rattle.base.specs.Word.{drop_bit0}
-use Rattle.base.proofs.Tests.{cases, each, when_true, when_false, choose}
+use Rattle.base.specs.Test.{all}
+use Rattle.base.specs.Word.{drop_bit0, sum16}
+use Rattle.base.proofs.Tests.{choices}
 use Rattle.rows.specs.declared.read.Begun.{Begun}
 use Rattle.isa.specs.declared.instruction.Instruction.{Instruction}
 use Rattle.isa.specs.declared.read.Decoded.{Decoded}
@@ -16,30 +14,24 @@ use Rattle.layout.specs.Sections.{inside}
 use Rattle.layout.specs.Access.{may}
 use Rattle.definition.specs.Registers.{pc}
 use Rattle.definition.specs.Judge.{reads, writes, all_may, privileged, is_reti, judge_act, judge_words, judge_second, judge_first, judge}
-use Rattle.definition.proofs.instruction.InstructionLaws.{is_reti_lem}
+use Rattle.isa.specs.Words.{finished}
+use Rattle.rows.specs.Words.{begun}
+use Rattle.definition.specs.Memory.{word_at}
 
--- two tests that do not both hold: what follows, and from what it follows
-pub not_second : (t u : Bool) → all (t ∷ u ∷ []) ≡ false → t ≡ true → u ≡ false
-unfolding all when◌then◌else◌
-not_second true true e h = e
-not_second true false e h = refl
-not_second false u e h = cc
-
+-- two tests do not both hold where one fails
 pub first_fails : (t u : Bool) → t ≡ false → all (t ∷ u ∷ []) ≡ false
 unfolding all
-first_fails t u e = when_false _ _ _ e
+first_fails t u e = grind (arith, choices)
 
 pub second_fails : (t u : Bool) → u ≡ false → all (t ∷ u ∷ []) ≡ false
-unfolding all when◌then◌else◌
-second_fails true u e = rw e
-second_fails false u e = refl
+unfolding all
+second_fails t u e = grind (arith, choices)
 
 -- words that may all be touched, one by one
 pub each_may : (L : Layout) (from : ℕ) (right : Right) (a : ℕ) (addresses : List ℕ) → all_may L from right (a ∷ addresses) ≡ true
     → (may L from right (drop_bit0 a) ≡ true) × (all_may L from right addresses ≡ true)
 unfolding all_may
-each_may L from right a addresses e =
-    cases (may L from right (drop_bit0 a)) (λ h. (h, sym (when_true _ _ _ h) ∙ e)) (λ h. absurd (true≢false (sym e ∙ when_false _ _ _ h)))
+each_may L from right a addresses e = grind (arith, choices)
 
 -- RETI while a visit is held
 abbrev pub resuming : Bool → Instruction → Bool
@@ -50,67 +42,53 @@ abbrev pub Touches : Layout → Bool → List ℕ → Instruction → Type 0
 Touches L held rs i =
     resuming held i ≡ false → (all_may L (pc rs) read (reads rs i) ≡ true) × (all_may L (pc rs) write (writes rs i) ≡ true)
 
--- what an instruction has passed
-record CausesPassed (L : Layout) (held : Bool) (rs : List ℕ) (previous : ℕ) (i : Instruction) : Type 0 where
-  executable : may L previous execute (pc rs) ≡ true
-  unheld : inside L (pc rs) ≡ true → held ≡ false
-  unprivileged : inside L (pc rs) ≡ true → privileged i ≡ false
-  touches : Touches L held rs i
+module _ (L : Layout) (held : Bool) (rs : List ℕ) where
+  -- what acts is what is judged, and has passed the causes
+  act_same : (i j : Instruction) → judge_act L held rs i ≡ Ok j → i ≡ j
+  unfolding judge_act
+  act_same i j e = grind (arith, choices)
+
+  act_unprivileged : (i j : Instruction) → judge_act L held rs i ≡ Ok j → inside L (pc rs) ≡ true → privileged i ≡ false
+  unfolding judge_act all
+  act_unprivileged i j e h = grind (arith, choices)
+
+  act_lawful : (i j : Instruction) → judge_act L held rs i ≡ Ok j → Touches L held rs i
+  unfolding judge_act
+  act_lawful i j e = grind (arith, choices)
+
+  words_act : (r : Result Decoded Refusal) (i : Instruction) → judge_words L held rs r ≡ Ok i → judge_act L held rs i ≡ Ok i
+  unfolding judge_words
+  words_act (Err r) i e = cc
+  words_act (Ok d) i e = let same = act_same d.instruction i e in cc
 
 module _ (L : Layout) (held : Bool) (rs mem : List ℕ) (previous : ℕ) where
-  -- whatever acts has passed
-  unfoldable Lawful : Result Instruction Cause → Type 0
-  Lawful (Err c) = Unit {0}
-  Lawful (Ok i) = CausesPassed L held rs previous i
-
-  module _ (x : may L previous execute (pc rs) ≡ true) (n : inside L (pc rs) ≡ true → held ≡ false) where
-    act_lawful : (i : Instruction) → Lawful (judge_act L held rs i)
-    unfolding judge_act Lawful
-    act_lawful i =
-        choose Lawful _ (λ p. tt) λ p.
-        let passes : Touches L held rs i → CausesPassed L held rs previous i =
-        λ t. record { executable = x; unheld = n; unprivileged = not_second _ _ p; touches = t } in
-        choose Lawful _ (λ r. passes (λ f. absurd (true≢false (sym r ∙ f)))) λ r.
-        choose Lawful _ (λ f. tt) λ f.
-        choose Lawful _ (λ g. tt) λ g. passes (λ r. (not-false _ f, not-false _ g))
-
-    words_lawful : (r : Result Decoded Refusal) → Lawful (judge_words L held rs r)
-    unfolding judge_words Lawful
-    words_lawful (Err r) = tt
-    words_lawful (Ok d) = act_lawful d.instruction
-
-    second_lawful : (b : Option Begun) → Lawful (judge_second L held rs mem b)
-    unfolding judge_second Lawful
-    second_lawful b = choose Lawful _ (λ t. choose Lawful _ (λ s. words_lawful _) (λ s. tt)) (λ t. words_lawful _)
-
-    first_lawful : (b : Option Begun) → Lawful (judge_first L held rs mem b)
-    unfolding judge_first Lawful
-    first_lawful None = tt
-    first_lawful (Some b) = second_lawful (Some b)
-
-  lawful : Lawful (judge L held rs mem previous)
-  unfolding judge Lawful
-  lawful = choose Lawful _ (λ e. tt) λ x. choose Lawful _ (λ e. tt) λ n. first_lawful (not-false _ x) (not_second _ _ n) _
+  second_act : (b : Option Begun) (i : Instruction) → judge_second L held rs mem b ≡ Ok i → judge_act L held rs i ≡ Ok i
+  unfolding judge_second
+  second_act b i e =
+      let words = words_act L held rs in
+      grind (arith, choices, words (finished b 0) i, words (finished b (word_at mem (sum16 (pc rs) 2))) i)
 
   -- an instruction that acts may be executed, does not enter the module again, and may do what it does
   module _ (i : Instruction) (e : judge L held rs mem previous ≡ Ok i) where
-    passed : CausesPassed L held rs previous i
-    unfolding Lawful
-    passed = subst Lawful e lawful
+    passed : judge_act L held rs i ≡ Ok i
+    unfolding judge judge_first
+    passed = grind (arith, choices, second_act (begun (word_at mem (pc rs))) i)
 
     pub acts_executable : may L previous execute (pc rs) ≡ true
-    acts_executable = passed.executable
+    unfolding judge
+    acts_executable = grind (arith, choices)
 
     pub acts_unheld : inside L (pc rs) ≡ true → held ≡ false
-    acts_unheld = passed.unheld
+    unfolding judge all
+    acts_unheld h = grind (arith, choices)
 
     pub acts_unprivileged : inside L (pc rs) ≡ true → privileged i ≡ false
-    acts_unprivileged = passed.unprivileged
+    acts_unprivileged = act_unprivileged L held rs i i passed
 
     pub acts_touches : Touches L held rs i
-    acts_touches = passed.touches
+    acts_touches = act_lawful L held rs i i passed
 
     -- RETI writes no memory
     pub acts_writes : all_may L (pc rs) write (writes rs i) ≡ true
-    unfolding all_may
-    acts_writes = cases (resuming held i) (λ r. rw (is_reti_lem i (each _ r).1.0)) (λ r. (acts_touches r).1)
+    unfolding all_may all
+    acts_writes = grind (arith, choices, acts_touches)

@@ -1,20 +1,11 @@
 -- The frame holds at the start and after every step: after one call, only refusals 5 and 6 are left. Assumes nothing.
-use Rattle.base.specs.Verdict.{unrefused}
-use Rattle.base.specs.declared.refusal.Refusal.{Refusal}
-use Rattle.std.specs.Prelude.{Option, None, Some, Result, Err}
-use mathlib.Core.Path.{◌≡◌, refl, sym, ◌∙◌, ap}
-use mathlib.Core.Bool.{Bool, true}
-use mathlib.Core.Logic.{◌⊎◌, inl, inr}
-use mathlib.Core.List.{List}
-use Prim.Native.Nat.{ℕ, ◌-◌, ◌%◌, ◌≤◌, min}
-use native.Mathlib.Omega.{arith}
-use lib.Dec.{leb, eqb}
-use borrow.Author.Tests.{eqb-true, eq-eqb, leb-true, le-leb}
+use Rattle.std.proofs.Common.{Option, Some, ◌≡◌, refl, sym, ◌∙◌, ap, Bool, true, List, ℕ, ◌≤◌, arith, leb, eqb, eqb-true, eq-eqb}
+use Rattle.std.proofs.lemmas.Bool.Decides.{nat_tests}
+use Rattle.base.specs.Test.{all}
 use Rattle.base.specs.Limits.{memory_bytes}
 use Rattle.base.specs.FirstFailure.{first_failure}
-use Rattle.base.specs.Word.{drop_bit0, is_even, difference16}
-use Rattle.base.specs.declared.refusal.Refusal.TheVariants.{Distance, Clock}
-use Rattle.base.proofs.Tests.{each, every, when_true, choose}
+use Rattle.base.specs.Word.{is_even, difference16}
+use Rattle.base.proofs.Tests.{each, every, choose, choices}
 use Rattle.isa.specs.declared.instruction.Instruction.{Instruction}
 use Rattle.layout.specs.Sections.{inside}
 use Rattle.layout.specs.Rules.{accepted}
@@ -25,10 +16,9 @@ use Rattle.definition.specs.declared.state.Time.{Time}
 use Rattle.definition.specs.declared.state.SavedContext.{SavedContext}
 use Rattle.definition.specs.declared.state.State.{State}
 use Rattle.answers.specs.declared.answer.Cause.{Cause}
-use Rattle.definition.specs.Memory.{word_at}
 use Rattle.definition.specs.Registers.{sp, sr, cleared}
 use Rattle.definition.specs.Time.{pass, emptied}
-use Rattle.definition.specs.State.{World, world, vector, reset_address, start, framed_context, framed, from_vector, held_visit}
+use Rattle.definition.specs.State.{World, world, reset_address, start, framed_context, framed, from_vector, held_visit}
 use Rattle.definition.specs.Interrupt.{Step, age_of, due, reset, plain, padded, chained, back}
 use Rattle.definition.specs.Step.{saved_for, executed}
 use Rattle.definition.specs.Run.{step_of, world_after}
@@ -40,6 +30,8 @@ use Rattle.definition.proofs.step.GieLaws.{due_at}
 use Rattle.definition.proofs.step.TouchLaws.{length_kept}
 use Rattle.definition.proofs.frame.RegisterFrame.{FramedRegisters, set_framed, registers_framed, cleared_framed}
 use Rattle.definition.proofs.frame.TimeFrame.{FramedTime, pass_framed, emptied_framed, alarm_framed}
+use Rattle.isa.specs.Cycles.{cycles_of}
+use Rattle.isa.specs.declared.instruction.Instruction.TheVariants.{Reti}
 
 -- the frame's parts
 pub record Framed (S : Setting) (m : State) : Type 0 where
@@ -60,8 +52,8 @@ frame_parts S m e =
     }
 
 pub frame_whole : (S : Setting) (m : State) → Framed S m → framed S m ≡ true
-unfolding framed
-frame_whole S m f = every _ (f.registers, (f.previous, (f.time.slot, (f.time.alarm, (f.context, tt)))))
+unfolding framed all
+frame_whole S m f = grind (arith, choices)
 
 -- and those of a held visit
 pub record FramedHeld (S : Setting) (saved : List ℕ) (previous age : ℕ) : Type 0 where
@@ -73,42 +65,25 @@ pub record FramedHeld (S : Setting) (saved : List ℕ) (previous age : ℕ) : Ty
 
 pub held_framed : (S : Setting) (m : State) (previous age : ℕ) → framed S m ≡ true → m.context ≡ held_visit previous age
     → FramedHeld S m.saved previous age
-held_framed S m previous age f e =
-    let h = each _ (sym (ap (framed_context S.layout m.saved) e) ∙ (frame_parts S m f).context) in
-    record {
-      age_bound = leb-true _ _ h.0;
-      registers = h.1.0;
-      gie_set = h.1.1.0;
-      previous_inside = h.1.1.1.0;
-      previous_even = h.1.1.1.1.0;
-    }
+unfolding all
+held_framed S m previous age f e = let c = (frame_parts S m f).context in grind (arith, choices, nat_tests)
 
 -- ---- the start
 
 vector_even : (mem : List ℕ) → is_even (reset_address mem) ≡ true
 unfolding reset_address
-vector_even mem = eq-eqb _ _ (halved (word_at mem vector))
-  where
-    halved : (w : ℕ) → drop_bit0 w % 2 ≡ 0
-    halved w = omega arith
+vector_even mem = grind (arith, nat_tests)
 
 pub framed_at_start : FramedAtStart
-unfolding FramedAtStart start
-framed_at_start S mem =
-    frame_whole S (start mem)
-    (record {
-      registers = cleared_framed _ (vector_even mem);
-      previous = refl;
-      time = record { slot = refl; alarm = refl };
-      context = refl;
-    })
+unfolding FramedAtStart start framed all
+framed_at_start S mem = grind (arith, choices, cleared_framed, vector_even)
 
 -- ---- a step
 
 -- an age is at most 6
 age_framed : (clock stamp : ℕ) → leb (age_of clock stamp) 6 ≡ true
 unfolding age_of
-age_framed clock stamp = le-leb (min (clock - stamp) 6) 6 (omega arith)
+age_framed clock stamp = grind (arith, nat_tests)
 
 module _ (S : Setting) (v : accepted S.layout ≡ true) where
   service_even : is_even S.layout.service ≡ true
@@ -116,24 +91,12 @@ module _ (S : Setting) (v : accepted S.layout ≡ true) where
 
   reset_framed : (c : Cause) (m : State) (mem : List ℕ) → FramedTime m.time → Framed S (reset S c m mem).state
   unfolding reset
-  reset_framed c m mem t =
-      record {
-        registers = cleared_framed _ (vector_even mem);
-        previous = refl;
-        time = emptied_framed _ (pass_framed S 4 _ t);
-        context = refl;
-      }
+  reset_framed c m mem t = grind (arith, cleared_framed, vector_even, pass_framed S 4, emptied_framed)
 
   -- a service that starts with its registers cleared
   served_framed : (t : Time) (context : Option SavedContext) (saved : List ℕ) → FramedTime t → framed_context S.layout saved context ≡ true
       → Framed S (from_vector (cleared S.layout.service) (pass S 6 (emptied t)) context saved)
-  served_framed t context saved f h =
-      record {
-        registers = cleared_framed _ service_even;
-        previous = refl;
-        time = pass_framed S 6 _ (emptied_framed _ f);
-        context = h;
-      }
+  served_framed t context saved f h = grind (arith, cleared_framed, service_even, pass_framed S 6, emptied_framed)
 
   padded_framed : (s : ℕ) (m : State) (mem : List ℕ) → due m ≡ Some s → inside S.layout m.previous ≡ true → Framed S m
       → Framed S (padded S s m mem).state
@@ -158,8 +121,7 @@ module _ (S : Setting) (v : accepted S.layout ≡ true) where
 
   saved_framed : (context : Option SavedContext) (saved : List ℕ) → framed_context S.layout saved context ≡ true
       → framed_context S.layout (saved_for context saved) context ≡ true
-  saved_framed None saved e = refl
-  saved_framed (Some _) saved e = e
+  saved_framed context saved e = grind arith
 
   module _ (m : State) (mem : List ℕ) (e : framed S m ≡ true) where
     parts : Framed S m
@@ -179,13 +141,8 @@ module _ (S : Setting) (v : accepted S.layout ≡ true) where
     return_framed : (previous age : ℕ) → m.context ≡ held_visit previous age → Framed S (after_return S m previous age)
     unfolding back
     return_framed previous age v =
-        let h = held_framed S m previous age e v in
-        record {
-          registers = h.registers;
-          previous = h.previous_even;
-          time = pass_framed S _ _ (pass_framed S _ _ parts.time);
-          context = refl;
-        }
+        let held = held_framed S m previous age e v in
+        grind (arith, parts, pass_framed S age, pass_framed S (cycles_of Reti) m.time)
 
     way_framed : (s : Step) → Way S m mem s → Framed S s.state
     unfolding executed chained back
@@ -224,12 +181,6 @@ ready_kept S w s =
       frame = frame_kept S w.state w.memory s.layout s.frame;
     }
 
--- the call is taken, or refused for its budget or the clock
-abbrev DistanceOrClock : Result (Unit {0}) Refusal → Type 0
-DistanceOrClock v = (v ≡ unrefused) ⊎ ((v ≡ Err Distance) ⊎ (v ≡ Err Clock))
-
 pub only_distance_or_clock : OnlyDistanceOrClock
 unfolding OnlyDistanceOrClock first_failure
-only_distance_or_clock S w budget s =
-    rw (when_true _ _ _ s.memory, when_true _ _ _ s.layout, when_true _ _ _ s.timetable, when_true _ _ _ s.frame)
-    (choose DistanceOrClock _ (λ d. choose DistanceOrClock _ (λ c. inl refl) (λ c. inr (inr refl))) (λ d. inr (inl refl)))
+only_distance_or_clock S w budget s = grind (arith, choices)

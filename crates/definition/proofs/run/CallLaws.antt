@@ -1,13 +1,8 @@
 -- What a call knows where it is taken, and what it must hand back. Assumes nothing.
+use Rattle.std.proofs.Common.{Result, Err, ◌≡◌, refl, ap, true, List, ℕ, ◌≤◌, length, arith}
+use Rattle.std.proofs.lemmas.Bool.Decides.{nat_tests}
 use Rattle.answers.specs.declared.answer.Stopped.{Stopped}
 use Rattle.answers.specs.declared.answer.Outcome.{Outcome}
-use Rattle.std.specs.Prelude.{Result, Err, Ok}
-use mathlib.Core.Path.{◌≡◌, refl, sym, ◌∙◌, ap}
-use mathlib.Core.Bool.{true}
-use mathlib.Core.List.{List}
-use Prim.Native.Nat.{ℕ, ◌≤◌}
-use lib.ListN.{length}
-use borrow.Author.Tests.{eqb-true, leb-true}
 use Rattle.base.specs.Test.{when◌then◌else◌}
 use Rattle.base.specs.declared.refusal.Refusal.{Refusal}
 use Rattle.base.specs.FirstFailure.{Test, holds_of}
@@ -18,8 +13,8 @@ use Rattle.base.proofs.Tests.{Each, none_fails}
 use Rattle.definition.specs.Setting.{Setting}
 use Rattle.definition.specs.declared.state.State.{State}
 use Rattle.definition.specs.State.{World, world}
-use Rattle.definition.specs.Answers.{start_refusal, step_refusal, run_refusal, step_kind, step_cause, run_end, run_steps}
-use Rattle.definition.specs.Calls.{timetable, start_tests, step_tests, run_tests, Called, called, start_answered, step_answered, run_answered, start_call, step_call, run_call}
+use Rattle.definition.specs.Answers.{start_refusal}
+use Rattle.definition.specs.Calls.{timetable, start_tests, step_tests, run_tests, called, start_answered, step_answered, run_answered, start_call, step_call, run_call}
 use Rattle.definition.specs.Promises.{StartPromise, StepPromise, RunPromise}
 use Rattle.definition.specs.Laws.{in_order, RefusalsInOrder, RefusedUntouched}
 
@@ -41,51 +36,24 @@ module _ (S : Setting) where
     pub early : w.state.time.clock ≤ last_clock
 
   pub step_fit : (w : World) → verdict (step_tests S w) ≡ unrefused → Fit w
-  step_fit w e =
-      let h = all_hold (step_tests S w) e in
-      record { whole = eqb-true _ _ h.0; timed = h.1.1.0; early = leb-true _ _ h.1.1.1.1.0 }
-
-  pub run_fit : (budget : ℕ) (w : World) → verdict (run_tests S budget w) ≡ unrefused → Fit w
-  run_fit budget w e =
-      let h = all_hold (run_tests S budget w) e in
-      record { whole = eqb-true _ _ h.0; timed = h.1.1.0; early = leb-true _ _ h.1.1.1.1.1.0 }
+  step_fit w e = let h = all_hold (step_tests S w) e in grind (arith, nat_tests)
 
 -- ---- what is promised follows from the result
 
 -- what start answers, by the verdict
 start_number : (mem : List ℕ) (v : Result (Unit {0}) Refusal) → start_refusal (start_answered mem v).answer ≡ refused_by v
-start_number mem (Ok _) = refl
-start_number mem (Err r) = refl
+start_number mem v = grind arith
 
 pub start_promised : (mem : List ℕ) (m : State) (answer : Result (Unit {0}) Refusal) → called m mem answer ≡ start_call mem → StartPromise mem m answer
 unfolding start_call
-start_promised mem m answer e =
-    let same : answer ≡ (start_answered mem (verdict (start_tests mem))).answer = ap (λ (c : Called (Result (Unit {0}) Refusal)). c.answer) e in
-    record { result = e; number = ap start_refusal same ∙ start_number mem (verdict (start_tests mem)) }
+start_promised mem m answer e = grind (arith, start_number mem (verdict (start_tests mem)))
 
 module _ (S : Setting) (before after : World) where
   module _ (answer : Result Outcome Refusal) where
     step_answers : (v : Result (Unit {0}) Refusal) → verdict (step_tests S before) ≡ v
         → called after.state after.memory answer ≡ step_answered S before v
         → called after.state after.memory answer ≡ step_call S before → StepPromise S before after answer
-    step_answers (Ok _) h e r =
-        let same = ap (λ (c : Called (Result Outcome Refusal)). c.answer) e in
-        record {
-          result = r;
-          number = ap step_refusal same ∙ sym (ap refused_by h);
-          kind = λ z. ap step_kind same;
-          cause = λ z. ap step_cause same;
-          refused = λ n. absurd (n (ap step_refusal same));
-        }
-    step_answers (Err f) h e r =
-        let same = ap (λ (c : Called (Result Outcome Refusal)). c.answer) e in
-        record {
-          result = r;
-          number = ap step_refusal same ∙ sym (ap refused_by h);
-          kind = λ z. absurd (number_not_zero f (sym (ap step_refusal same) ∙ z));
-          cause = λ z. absurd (number_not_zero f (sym (ap step_refusal same) ∙ z));
-          refused = λ n. (ap (λ (c : Called (Result Outcome Refusal)). c.state) e, ap (λ (c : Called (Result Outcome Refusal)). c.memory) e);
-        }
+    step_answers v h e r = grind (arith, number_not_zero)
 
     pub step_promised : called after.state after.memory answer ≡ step_call S before → StepPromise S before after answer
     unfolding step_call
@@ -95,24 +63,7 @@ module _ (S : Setting) (before after : World) where
     run_answers : (v : Result (Unit {0}) Refusal) → verdict (run_tests S budget before) ≡ v
         → called after.state after.memory answer ≡ run_answered S budget before v
         → called after.state after.memory answer ≡ run_call S budget before → RunPromise S budget before after answer
-    run_answers (Ok _) h e r =
-        let same = ap (λ (c : Called (Result Stopped Refusal)). c.answer) e in
-        record {
-          result = r;
-          number = ap run_refusal same ∙ sym (ap refused_by h);
-          end = λ z. ap run_end same;
-          steps = λ z. ap run_steps same;
-          refused = λ n. absurd (n (ap run_refusal same));
-        }
-    run_answers (Err f) h e r =
-        let same = ap (λ (c : Called (Result Stopped Refusal)). c.answer) e in
-        record {
-          result = r;
-          number = ap run_refusal same ∙ sym (ap refused_by h);
-          end = λ z. absurd (number_not_zero f (sym (ap run_refusal same) ∙ z));
-          steps = λ z. absurd (number_not_zero f (sym (ap run_refusal same) ∙ z));
-          refused = λ n. (ap (λ (c : Called (Result Stopped Refusal)). c.state) e, ap (λ (c : Called (Result Stopped Refusal)). c.memory) e);
-        }
+    run_answers v h e r = grind (arith, number_not_zero)
 
     pub run_promised : called after.state after.memory answer ≡ run_call S budget before
         → RunPromise S budget before after answer
@@ -124,11 +75,11 @@ module _ (S : Setting) (before after : World) where
 module _ (S : Setting) (w : World) (v : Result (Unit {0}) Refusal) where
   pub step_call_lem : verdict (step_tests S w) ≡ v → step_call S w ≡ step_answered S w v
   unfolding step_call
-  step_call_lem e = ap (step_answered S w) e
+  step_call_lem e = grind arith
 
   pub run_call_lem : (budget : ℕ) → verdict (run_tests S budget w) ≡ v → run_call S budget w ≡ run_answered S budget w v
   unfolding run_call
-  run_call_lem budget e = ap (run_answered S budget w) e
+  run_call_lem budget e = grind arith
 
 -- ---- every call
 

@@ -1,10 +1,6 @@
 -- A step that begins outside is decided by what is seen from outside, or resumes the held module. Assumes nothing.
+use Rattle.std.proofs.Common.{Option, None, Result, Ok, Err, Some, ◌≡◌, refl, sym, ◌∙◌, Bool, true, false, true≢false, List, ℕ}
 use Rattle.answers.specs.declared.answer.Cause.{Cause}
-use Rattle.std.specs.Prelude.{Option, None, Result, Ok, Err, Some}
-use mathlib.Core.Path.{◌≡◌, refl, sym, ◌∙◌}
-use mathlib.Core.Bool.{Bool, true, false, true≢false}
-use mathlib.Core.List.{List}
-use Prim.Native.Nat.{ℕ}
 use Rattle.base.specs.Test.{when◌then◌else◌}
 use Rattle.base.specs.Word.{is_even}
 use Rattle.base.proofs.Tests.{each, choose_both}

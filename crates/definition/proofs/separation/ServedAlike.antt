@@ -1,10 +1,5 @@
 -- Reset, a plain service and a return from a held visit go alike where they are seen alike. Assumes nothing.
-use Rattle.std.specs.Prelude.{Option, None, Some}
-use mathlib.Core.Path.{◌≡◌, refl}
-use mathlib.Core.Bool.{Bool, true, false}
-use mathlib.Core.List.{List}
-use Prim.Native.Nat.{ℕ}
-use native.Mathlib.Omega.{arith}
+use Rattle.std.proofs.Common.{Option, None, Some, ◌≡◌, refl, Bool, true, false, List, ℕ, arith}
 use Rattle.base.proofs.Tests.{choose_both}
 use Rattle.layout.specs.Rules.{accepted}
 use Rattle.layout.proofs.SectionLaws.{section_outside}
@@ -31,19 +26,13 @@ module _ (S : Setting) where
   pub given_alike : {rs saved copy : List ℕ} {t : Time} {b : Bool} {p : ℕ} {v u : Option SavedContext} {o : Outcome} {mem bytes : List ℕ}
       → is_held v ≡ is_held u → SameOutside S mem bytes
       → SameStep S (gives (machine_of rs t b p v saved) mem o) (gives (machine_of rs t b p u copy) bytes o)
-  given_alike h s =
-      record {
-        view = record { registers = refl; time = refl; held = h; halted = refl; memory = s };
-        previous = refl;
-        outcome = refl;
-      }
+  given_alike h s = grind arith
 
   -- the padded check after a return resumes the module whatever it finds
   pub back_resumes : (m : State) (mem : List ℕ) (d : Option ℕ)
       → is_resuming (interrupted S true Back m mem d).outcome ≡ true
   unfolding interrupted padded
-  back_resumes m mem None = refl
-  back_resumes m mem (Some stamp) = refl
+  back_resumes m mem d = grind arith
 
   module _ (mem bytes : List ℕ) (s : SameOutside S mem bytes) where
     -- a return from a held visit chains, or resumes
@@ -57,9 +46,7 @@ module _ (S : Setting) where
     pub reset_alike : accepted S.layout ≡ true → (c : Cause) (m n : State) → m.time ≡ n.time
         → SameStep S (reset S c m mem) (reset S c n bytes)
     unfolding reset reset_address
-    reset_alike fit c m n e =
-        let o = section_outside S.layout vector (vector_outside S.layout vector fit (omega arith)) in
-        rw (word_same S fit vector s o, e) (given_alike refl s)
+    reset_alike fit c m n e = grind (arith, word_same S fit vector s, section_outside S.layout vector, vector_outside S.layout vector fit)
 
     module _ (fit : accepted S.layout ≡ true) (rs : List ℕ) (t : Time) (b : Bool) (p : ℕ) (v u : Option SavedContext) (h : is_held v ≡ is_held u)
         (saved copy : List ℕ) where

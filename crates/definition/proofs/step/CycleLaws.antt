@@ -1,10 +1,6 @@
 -- A step of a running machine adds 1 to 23 cycles, and a halted machine stays as it is. Assumes nothing.
-use mathlib.Core.Path.{◌≡◌, ap}
-use mathlib.Core.Bool.{false}
-use mathlib.Core.List.{List}
-use Prim.Native.Nat.{ℕ, ◌+◌, ◌≤◌}
-use native.Mathlib.Omega.{arith}
-use Rattle.base.proofs.Tests.{when_true, choose}
+use Rattle.std.proofs.Common.{◌≡◌, ap, false, List, ℕ, ◌+◌, ◌≤◌, arith}
+use Rattle.base.proofs.Tests.{choices}
 use Rattle.isa.specs.declared.instruction.Instruction.{Instruction}
 use Rattle.definition.specs.State.{held_visit}
 use Rattle.definition.specs.Setting.{Setting}
@@ -34,7 +30,7 @@ module _ (S : Setting) where
 
   pub plain_adds : (m : State) (mem : List ℕ) → Adds 4 6 m.time.clock (plain S m mem)
   unfolding plain reset emptied pass
-  plain_adds m mem = choose (Adds 4 6 m.time.clock) _ (λ e. omega arith) (λ e. omega arith)
+  plain_adds m mem = grind (arith, choices)
 
   pub padded_adds : (s : ℕ) (m : State) (mem : List ℕ) → Adds 6 12 m.time.clock (padded S s m mem)
   unfolding padded emptied pass age_of
@@ -73,4 +69,4 @@ clock_rises S m mem r =
 
 pub halted_stays : HaltedStays
 unfolding HaltedStays step
-halted_stays S m mem h = when_true _ _ _ h
+halted_stays S m mem h = grind (arith, choices)

@@ -1,13 +1,9 @@
 -- GIE: code inside never alters it, an interrupt is due only where it is set, and every service clears it. Assumes nothing.
-use Rattle.std.specs.Prelude.{None, Some}
-use mathlib.Core.Path.{◌≡◌, refl, sym, ◌∙◌, ap}
-use mathlib.Core.Bool.{Bool, true, false, true≢false}
-use mathlib.Core.List.{List, [], ◌∷◌}
-use Prim.Native.Nat.{ℕ, zero, suc}
-use native.Mathlib.Omega.{arith}
-use lib.ListN.{set}
-use borrow.Author.Tests.{eq-eqb, leb-true}
-use Rattle.base.proofs.Tests.{cases, every, when_true, when_false, choose}
+use Rattle.std.proofs.Common.{None, Some, ◌≡◌, refl, ◌∙◌, Bool, true, false, List, ℕ, arith, set}
+use Rattle.std.proofs.lemmas.Grind.{common_steps}
+use Rattle.std.proofs.lemmas.Bool.Decides.{nat_tests}
+use Rattle.base.specs.Test.{all}
+use Rattle.base.proofs.Tests.{choices}
 use Rattle.isa.specs.declared.instruction.Instruction.{Instruction}
 use Rattle.layout.specs.Sections.{inside}
 use Rattle.alu.specs.Status.{gie}
@@ -17,10 +13,10 @@ use Rattle.definition.specs.Setting.{Setting}
 use Rattle.definition.specs.declared.state.State.{State}
 use Rattle.definition.specs.Registers.{register, sr, pc, write, cleared}
 use Rattle.definition.specs.Act.{past}
-use Rattle.definition.specs.Interrupt.{Step, due, chained}
+use Rattle.definition.specs.Interrupt.{due, chained}
 use Rattle.definition.specs.Step.{executed}
 use Rattle.definition.specs.Laws.{GieKeptInside, NothingDue, ChainsWhateverGie}
-use Rattle.definition.proofs.instruction.ActLaws.{register_set, registers_after_lem}
+use Rattle.definition.proofs.instruction.ActLaws.{registers_after_lem}
 use Rattle.definition.proofs.step.StepLaws.{next, step_chains}
 
 -- ---- code inside
@@ -31,15 +27,12 @@ module _ (b : Bool) where
   Gie rs = gie (sr rs) ≡ b
 
   pub set_gie : (rs : List ℕ) (n v : ℕ) → (2 ≡ n → gie v ≡ b) → Gie rs → Gie (set rs n v)
-  set_gie rs n v new old = register_set (λ (x : ℕ). gie x ≡ b) rs n 2 v new old
+  unfolding register
+  set_gie rs n v new old = grind (arith, common_steps)
 
   write_gie : (rs : List ℕ) (n w : ℕ) → Gie rs → Gie (write true rs n w)
-  unfolding write GieKept
-  write_gie rs n w h =
-      choose Gie _ (λ e. h) λ e.
-      choose Gie _ (λ f. set_gie rs n _ (λ k. absurd (omega (arith, leb-true n 1 f))) h) λ f.
-      choose Gie _ (λ g. set_gie rs 2 _ (λ k. (gie_kept (sr rs) w).0 ∙ h) h) λ g.
-      set_gie rs n w (λ k. absurd (true≢false (sym (every _ (eq-eqb n 2 (sym k), (refl, tt))) ∙ g))) h
+  unfolding write GieKept all
+  write_gie rs n w h = grind (arith, choices, nat_tests, set_gie, gie_kept)
 
 pub gie_kept_inside : GieKeptInside
 unfolding GieKeptInside past FlagsOnly
@@ -58,24 +51,21 @@ next_gie S m mem i h = rw h (gie_kept_inside m.registers mem _ i)
 -- what is due is in the slot, and GIE is set
 pub due_at : (m : State) (s : ℕ) → due m ≡ Some s → (gie (sr m.registers) ≡ true) × (m.time.slot ≡ Some s)
 unfolding due
-due_at m s e =
-    cases (gie (sr m.registers)) (λ g. (g, sym (when_true _ _ _ g) ∙ e))
-    (λ g. let f = when_false _ m.time.slot None g in (cc, cc))
+due_at m s e = grind (arith, choices)
 
 pub at_due : (m : State) (s : ℕ) → gie (sr m.registers) ≡ true → m.time.slot ≡ Some s → due m ≡ Some s
 unfolding due
-at_due m s g e = when_true _ _ _ g ∙ e
+at_due m s g e = grind (arith, choices)
 
 -- no interrupt is due: where GIE is set the slot is empty
 pub due_never : (m : State) → due m ≡ None → NothingDue m
 unfolding due
-due_never m e g = sym (when_true _ _ _ g) ∙ e
+due_never m e g = grind (arith, choices)
 
 -- a return that chains does so whatever GIE is
 pub chains_whatever_gie : ChainsWhateverGie
 unfolding ChainsWhateverGie chained
-chains_whatever_gie S m mem previous age s r v e f =
-    ap (λ (z : Step). z.outcome) (step_chains S m mem r previous age s (record { holding = v; acting = e }) f)
+chains_whatever_gie S m mem previous age s r v e f = grind (arith, step_chains S m mem r previous age s)
 
 -- ---- registers of a service
 
@@ -83,14 +73,7 @@ pub cleared_gie : (a : ℕ) → gie (sr (cleared a)) ≡ false
 unfolding gie register cleared
 cleared_gie a = refl
 
--- a register that is set to 0 is 0, also where there is none
-register_zero : (rs : List ℕ) (n : ℕ) → register (set rs n 0) n ≡ 0
-unfolding register
-register_zero [] n = refl
-register_zero (x ∷ rs) zero = refl
-register_zero (x ∷ rs) (suc n) = register_zero rs n
-
 -- after a plain interrupt
 pub plain_gie : (rs : List ℕ) (low service : ℕ) → gie (sr (set (set (set rs 1 low) 2 0) 0 service)) ≡ false
-unfolding gie
-plain_gie rs low service = set_gie false _ 0 service (λ k. absurd (omega arith)) (ap gie (register_zero (set rs 1 low) 2))
+unfolding gie register
+plain_gie rs low service = grind (arith, common_steps, nat_tests)

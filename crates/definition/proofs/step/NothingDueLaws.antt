@@ -1,10 +1,6 @@
 -- Where GIE is set the slot is empty, so that the age at a padded service is at most 5. Assumes nothing.
-use mathlib.Core.Path.{◌≡◌, sym, ◌∙◌, ap}
-use mathlib.Core.Bool.{Bool, true, false, true≢false}
-use mathlib.Core.List.{List}
-use Prim.Native.Nat.{ℕ, ◌-◌, ◌≤◌, min}
-use native.Mathlib.Omega.{arith}
-use Rattle.base.proofs.Tests.{choose}
+use Rattle.std.proofs.Common.{◌≡◌, sym, ◌∙◌, ap, Bool, true, false, true≢false, List, ℕ, ◌-◌, ◌≤◌, min, arith}
+use Rattle.base.proofs.Tests.{choose, choices}
 use Rattle.isa.specs.Cycles.{cycles_of}
 use Rattle.definition.specs.Setting.{Setting}
 use Rattle.definition.specs.declared.state.State.{State}
@@ -12,7 +8,7 @@ use Rattle.answers.specs.declared.answer.Outcome.TheVariants.{Padded}
 use Rattle.answers.specs.Outcome.{kind_letter}
 use Rattle.definition.specs.Time.{pass}
 use Rattle.definition.specs.State.{start, framed, held_visit}
-use Rattle.definition.specs.Interrupt.{Step, age_of, reset, plain, padded, chained, back}
+use Rattle.definition.specs.Interrupt.{Step, age_of, reset, plain, padded, chained, back, due}
 use Rattle.definition.specs.Step.{executed}
 use Rattle.definition.specs.Laws.{NothingDue, NothingDueAtStart, NothingDueKept, AgeAtMostFive}
 use Rattle.definition.proofs.time.PassLaws.{pass_clock, pass_filled}
@@ -28,15 +24,13 @@ gie_clear : {g : Bool} {A : Type 0} → g ≡ false → g ≡ true → A
 gie_clear e g = absurd (true≢false (sym g ∙ e))
 
 pub nothing_due_at_start : NothingDueAtStart
-unfolding NothingDueAtStart start
-nothing_due_at_start mem = gie_clear (cleared_gie _)
+unfolding NothingDueAtStart start due
+nothing_due_at_start mem = grind (arith, cleared_gie)
 
 module _ (S : Setting) where
   plain_nothing_due : (m : State) (mem : List ℕ) → NothingDue (plain S m mem).state
   unfolding plain reset
-  plain_nothing_due m mem =
-      choose (λ (s : Step). NothingDue s.state) _
-      (λ e. gie_clear (plain_gie m.registers _ S.layout.service)) (λ e. gie_clear (cleared_gie _))
+  plain_nothing_due m mem = grind (arith, choices, plain_gie m.registers, cleared_gie)
 
   way_nothing_due : (m : State) (mem : List ℕ) (s : Step) → Way S m mem s → s.state.halted ≡ false → NothingDue s.state
   unfolding reset padded chained executed

@@ -1,11 +1,7 @@
 -- How a step goes: its equation where it is known what the machine does, and the ways that there are. Assumes nothing.
-use Rattle.std.specs.Prelude.{Option, None, Some, Result, Ok, Err}
-use mathlib.Core.Path.{◌≡◌, refl, sym, ◌∙◌, ap, subst}
-use mathlib.Core.Bool.{Bool, true, false}
-use mathlib.Core.List.{List}
-use Prim.Native.Nat.{ℕ, ◌+◌}
+use Rattle.std.proofs.Common.{Option, None, Some, Result, Ok, Err, ◌≡◌, refl, sym, ◌∙◌, ap, subst, Bool, true, false, List, ℕ, ◌+◌, arith}
 use Rattle.base.specs.Test.{when◌then◌else◌, all}
-use Rattle.base.proofs.Tests.{when_false, choose}
+use Rattle.base.proofs.Tests.{choose, choices}
 use Rattle.isa.specs.declared.instruction.Instruction.{Instruction}
 use Rattle.isa.specs.declared.instruction.Instruction.TheVariants.{Reti}
 use Rattle.isa.specs.Cycles.{cycles_of}
@@ -24,7 +20,7 @@ use Rattle.definition.specs.Act.{memory_after}
 use Rattle.definition.specs.Interrupt.{Step, gives, due, reset, plain, padded, interrupted, chained, back, resumed}
 use Rattle.definition.specs.Step.{is_hlt, executed, judged, ordinary, performed, step_judged, step}
 use Rattle.definition.proofs.time.PassLaws.{pass_clock}
-use Rattle.definition.proofs.cause.JudgeLaws.{not_second, first_fails, second_fails, resuming, acts_unheld, acts_unprivileged}
+use Rattle.definition.proofs.cause.JudgeLaws.{first_fails, second_fails, resuming, acts_unheld, acts_unprivileged}
 use Rattle.definition.proofs.instruction.InstructionLaws.{is_reti_lem, alarmed_else, unprivileged}
 
 -- the age of a held visit, 0 where none is held
@@ -83,9 +79,8 @@ module _ (S : Setting) (m : State) (mem : List ℕ) where
 
   performed_ordinary : (v : Option SavedContext) (i : Instruction) → resuming (is_held v) i ≡ false
       → performed S m mem v i ≡ ordinary S m mem i
-  unfolding performed
-  performed_ordinary None i e = refl
-  performed_ordinary (Some _) i e = when_false _ _ _ (not_second true (is_reti i) e refl)
+  unfolding performed all
+  performed_ordinary v i e = grind (arith, choices)
 
   interrupted_way : (i : Instruction) → Runs i → (t : Bool) → inside S.layout (pc m.registers) ≡ t → (d : Option ℕ) → due (next i) ≡ d
       → Way (interrupted S t Ran (next i) (bytes m mem i) d)
@@ -136,7 +131,7 @@ module _ (S : Setting) (m : State) (mem : List ℕ) where
   -- an instruction adds its cycles; the slot is as they leave it, and inside the alarm too
   pub next_clock : (i : Instruction) → (next i).time.clock ≡ m.time.clock + cycles_of i
   unfolding executed
-  next_clock i = (alarmed_else m.registers _ i).0 ∙ pass_clock S (cycles_of i) m.time
+  next_clock i = grind (arith, alarmed_else m.registers, pass_clock S (cycles_of i) m.time)
 
   pub next_slot : (i : Instruction) → (next i).time.slot ≡ (pass S (cycles_of i) m.time).slot
   unfolding executed
@@ -162,47 +157,41 @@ module _ (S : Setting) (m : State) (mem : List ℕ) where
   module _ (running : m.halted ≡ false) where
     running_step : step S m mem ≡ step_judged S m mem (judged S (world m mem))
     unfolding step
-    running_step = when_false _ _ _ running
+    running_step = grind (arith, choices)
 
     -- a step of a running machine goes one of these ways
     pub way : Way (step S m mem)
     way = subst Way (sym running_step) (judged_way (judged S (world m mem)) refl)
 
     -- the equation of each way
-    pub step_faulty : (c : Cause) → judged S (world m mem) ≡ Err c → step S m mem ≡ reset S c m mem
-    unfolding step_judged
-    step_faulty c e = running_step ∙ ap (step_judged S m mem) e
-
     pub step_acts : (i : Instruction) → judged S (world m mem) ≡ Ok i → step S m mem ≡ performed S m mem m.context i
     unfolding step_judged
-    step_acts i e = running_step ∙ ap (step_judged S m mem) e
+    step_acts i e = grind (arith, running_step)
 
     pub step_runs : (i : Instruction) → Runs i
         → step S m mem ≡ interrupted S (inside S.layout (pc m.registers)) Ran (next i) (bytes m mem i) (due (next i))
     unfolding ordinary executed
-    step_runs i r = step_acts i r.acting ∙ performed_ordinary m.context i r.staying ∙ when_false _ _ _ r.going
+    step_runs i r = grind (arith, choices, step_acts i, performed_ordinary)
 
     -- an instruction inside, into which a request breaks
     pub step_pads : (i : Instruction) (s : ℕ) → judged S (world m mem) ≡ Ok i → inside S.layout (pc m.registers) ≡ true → due (next i) ≡ Some s
         → step S m mem ≡ padded S s (next i) (bytes m mem i)
     unfolding interrupted
-    step_pads i s e h d = step_runs i (runs_inside i e h) ∙ rw (h, d)
+    step_pads i s e h d = grind (arith, step_runs i (runs_inside i e h))
 
     pub step_returns : (previous age : ℕ) → Returns previous age
         → step S m mem ≡ resumed S (after_reti S m) previous age m.saved mem (after_reti S m).slot
-    unfolding performed when◌then◌else◌
-    step_returns previous age r =
-        step_acts Reti r.acting ∙ ap (λ (v : Option SavedContext). performed S m mem v Reti) r.holding
+    unfolding performed all
+    step_returns previous age r = grind (arith, choices, step_acts Reti)
 
     module _ (previous age s : ℕ) (r : Returns previous age) where
       pub step_chains : (after_reti S m).slot ≡ Some s
           → step S m mem ≡ chained S (after_reti S m) (held_visit previous age) m.saved mem
       unfolding resumed
-      step_chains e = step_returns previous age r ∙ ap (resumed S (after_reti S m) previous age m.saved mem) e
+      step_chains e = grind (arith, step_returns previous age r)
 
       -- a return, into whose padding a request breaks
       pub step_pads_again : (after_reti S m).slot ≡ None → due (after_return S m previous age) ≡ Some s
           → step S m mem ≡ padded S s (after_return S m previous age) mem
       unfolding interrupted resumed
-      step_pads_again e d =
-          step_returns previous age r ∙ ap (resumed S (after_reti S m) previous age m.saved mem) e ∙ rw d
+      step_pads_again e d = grind (arith, step_returns previous age r)

@@ -1,13 +1,8 @@
 -- A step keeps memory's length, writes its own side only, and reads the reset vector after its writes. Assumes nothing.
-use Rattle.std.specs.Prelude.{Ok}
-use mathlib.Core.Path.{◌≡◌, refl, sym, ◌∙◌, ap, subst}
-use mathlib.Core.Logic.{◌≢◌}
-use mathlib.Core.Bool.{true, false, true≢false}
-use mathlib.Core.List.{List, []}
-use Prim.Native.Nat.{ℕ}
-use lib.ListN.{length}
+use Rattle.std.proofs.Common.{Ok, ◌≡◌, refl, sym, ◌∙◌, ap, subst, ◌≢◌, true, false, true≢false, List, [], ℕ, length, arith}
+use Rattle.base.specs.Test.{all}
 use Rattle.base.specs.Word.{drop_bit0}
-use Rattle.base.proofs.Tests.{cases, each, choose}
+use Rattle.base.proofs.Tests.{choose, choices}
 use Rattle.isa.specs.declared.instruction.Instruction.{Instruction}
 use Rattle.layout.specs.declared.access.Right.TheVariants.{Write}
 use Rattle.layout.specs.declared.sections.Layout.{Layout}
@@ -39,10 +34,8 @@ use Rattle.definition.proofs.step.StepLaws.{bytes, Way, resets, halts, runs, ser
 
 -- what may be written from inside is not outside, and what may be from elsewhere is
 pub may_write_side : (L : Layout) (from a : ℕ) → may L from Write a ≡ true → outside L a ≢ inside L from
-may_write_side L from a e f =
-    cases (inside L from)
-    (λ i. true≢false (sym (f ∙ i) ∙ data_not_outside L a (inside_touches_data L from a Write i refl e)))
-    (λ i. true≢false (sym (section_outside L a (elsewhere_touches_outside L from a Write i refl e)) ∙ f ∙ i))
+may_write_side L from a e =
+    grind (arith, data_not_outside L a, inside_touches_data L from a Write, section_outside L a, elsewhere_touches_outside L from a Write)
 
 -- a memory that is as long as before, and the same on the other side than an instruction's
 pub record OwnSide (S : Setting) (from : ℕ) (mem after : List ℕ) : Type 0 where
@@ -58,11 +51,7 @@ module _ (S : Setting) (m : State) (mem : List ℕ) where
 
   put_own : (x : List ℕ) (b w : ℕ) → (accepted S.layout ≡ true → outside S.layout (drop_bit0 b) ≢ inside S.layout (pc m.registers)) → Own x
       → Own (put_word x b w)
-  put_own x b w n o =
-      record {
-        long = put_length x b w ∙ o.long;
-        other = λ v a k. put_side S.layout v x b w a (λ f. n v (sym f ∙ sym k)) ∙ o.other v a k;
-      }
+  put_own x b w n o = grind (arith, put_length x b w, put_side S.layout)
 
   pub acted_own : (i : Instruction) → judged S (world m mem) ≡ Ok i → Own (bytes m mem i)
   acted_own i e =
@@ -72,12 +61,8 @@ module _ (S : Setting) (m : State) (mem : List ℕ) where
 
   -- a plain interrupt writes only outside
   plain_own : (next : State) (x : List ℕ) → inside S.layout (pc m.registers) ≡ false → Own x → Own (plain S next x).memory
-  unfolding plain reset
-  plain_own next x i o =
-      let apart : (b : ℕ) → outside S.layout b ≡ true → accepted S.layout ≡ true → outside S.layout (drop_bit0 b) ≢ inside S.layout (pc m.registers) =
-      λ b h v f. true≢false (sym h ∙ sym (even_side S.layout v b) ∙ f ∙ i) in
-      choose (λ (s : Step). Own s.memory) _
-      (λ e. let h = each _ e in put_own _ _ _ (apart _ h.1.0) (put_own x _ _ (apart _ h.0) o)) (λ e. o)
+  unfolding plain reset all
+  plain_own next x i o = grind (arith, choices, put_length, put_side S.layout, even_side S.layout)
 
   way_own : (s : Step) → Way S m mem s → Own s.memory
   unfolding reset padded chained
@@ -132,7 +117,7 @@ module _ (S : Setting) where
   -- what a reset leaves
   reset_leaves : (d : Cause) (x : State) (bytes : List ℕ) → AfterReset (reset S d x bytes)
   unfolding reset cleared register emptied
-  reset_leaves d x bytes = record { address = refl; slot = refl; context = refl }
+  reset_leaves d x bytes = grind arith
 
 pub reset_after_store : ResetAfterStore
 unfolding ResetAfterStore

@@ -1,9 +1,5 @@
 -- A request that fills the slot inside, or in return padding, reaches service exactly 12 cycles after its stamp. Assumes nothing.
-use Rattle.std.specs.Prelude.{None, Some}
-use mathlib.Core.Path.{◌≡◌, refl, sym, ◌∙◌, ap, subst}
-use mathlib.Core.List.{List}
-use Prim.Native.Nat.{ℕ, ◌+◌, ◌-◌, ◌≤◌, ◌<◌, min}
-use native.Mathlib.Omega.{arith}
+use Rattle.std.proofs.Common.{None, Some, ◌≡◌, refl, sym, ◌∙◌, ap, subst, List, ℕ, ◌+◌, ◌-◌, ◌≤◌, ◌<◌, arith}
 use Rattle.isa.specs.Cycles.{cycles_of}
 use Rattle.definition.specs.Setting.{Setting}
 use Rattle.definition.specs.declared.state.Time.{Time}
@@ -14,7 +10,7 @@ use Rattle.definition.specs.Interrupt.{Step, age_of, padded, back}
 use Rattle.definition.specs.Laws.{PassAdds, PaddedByStamp, PaddingSum, TwelveInside, TwelveInReturn}
 use Rattle.definition.proofs.time.PassLaws.{pass_adds, pass_clock, pass_filled}
 use Rattle.definition.proofs.instruction.InstructionLaws.{cycles_range}
-use Rattle.definition.proofs.step.StepLaws.{same_age, step_pads, step_pads_again, after_reti, after_return, next_inside}
+use Rattle.definition.proofs.step.StepLaws.{step_pads, step_pads_again, after_reti, after_return, next_inside}
 use Rattle.definition.proofs.step.GieLaws.{next_gie, at_due}
 use Rattle.definition.proofs.frame.FrameLaws.{held_framed}
 
@@ -35,8 +31,7 @@ padded_by_stamp S m mem t n s e l p h =
 -- the two waits of a padded interrupt
 pub padding_sum : PaddingSum
 unfolding PaddingSum padded back pass emptied age_of
-padding_sum S s m mem t previous age saved v =
-    let e : min (m.time.clock - s) 6 ≡ age = same_age _ _ _ _ v in omega arith
+padding_sum S s m mem t previous age saved v = grind arith
 
 -- the step serves the stamp, 12 cycles after it
 abbrev Twelve : ℕ → Step → Type 0
@@ -45,10 +40,7 @@ Twelve s z = (z.outcome ≡ Padded) × (z.state.time.clock ≡ s + 12)
 padded_twelve : (S : Setting) (m : State) (mem : List ℕ) (t : Time) (n s : ℕ)
     → t.slot ≡ None → n ≤ 6 → m.time ≡ pass S n t → m.time.slot ≡ Some s → Twelve s (padded S s m mem)
 unfolding padded pass emptied age_of
-padded_twelve S m mem t n s e l p h =
-    let w = pass_filled S n t s e (ap (λ (x : Time). x.slot) (sym p) ∙ h) in
-    let c = ap (λ (x : Time). x.clock) p in
-    (refl, omega arith)
+padded_twelve S m mem t n s e l p h = grind (arith, pass_filled S n t s, pass_clock S n t)
 
 pub twelve_inside : TwelveInside
 unfolding TwelveInside

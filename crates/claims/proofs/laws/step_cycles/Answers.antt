@@ -1,5 +1,0 @@
-use Rattle.definition.proofs.step.CycleLaws.{step_cycles}
-use Rattle.claims.proofs.laws.step_cycles.Goals as goal
-
-pub returns : goal.returns
-returns c = step_cycles
