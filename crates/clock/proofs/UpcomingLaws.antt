@@ -1,10 +1,9 @@
 -- The earliest stamp of a timetable that happens is the upcoming one, if it happens. Assumes nothing.
-use Rattle.std.proofs.Common.{◌≡◌, ℕ, zero, suc, ◌+◌, ◌-◌, ◌<◌, ◌≤◌, true, ltb, leb, List, [], ◌∷◌, length, get_or, drop, refl, sym, ap, ◌∙◌, arith, ltb-false, ltb-true, le-ltb, lt-ltb, le-leb, leb-true, leb-false, length-drop, get_or-drop, Option, None, Some}
+use Rattle.std.proofs.Common.{◌≡◌, ℕ, zero, suc, ◌+◌, ◌-◌, ◌<◌, ◌≤◌, true, leb, List, [], ◌∷◌, length, get_or, drop, refl, arith, length-drop, get_or-drop, Option, None, Some}
 use Rattle.std.specs.List.{prefix_len}
-use Rattle.std.proofs.lemmas.Bool.{lt-leb}
-use Rattle.std.proofs.lemmas.List.Sums.{prefix_len_passes, prefix_len_stops}
-use Rattle.base.specs.Test.{when◌then◌else◌, all}
-use Rattle.base.proofs.Tests.{cases}
+use Rattle.std.proofs.lemmas.List.Sums.{prefix_len_passes, prefix_len_stops, prefix_len-le-length}
+use Rattle.base.specs.Test.{all}
+use Rattle.base.proofs.Tests.{choices}
 use Rattle.definition.specs.Time.{happening, earlier, earliest}
 use Rattle.definition.specs.Calls.{rising_from, timetable}
 use Rattle.clock.specs.declared.time.Requests.{Requests}
@@ -23,45 +22,35 @@ earlier_never (Some s) = refl
 module _ (a b : ℕ) where
   -- a stamp that the clock has passed does not happen
   pub passed_by : (s : ℕ) → s ≤ a → happening a b (Some s) ≡ None
-  unfolding happening all when◌then◌else◌
-  passed_by s h = rw (le-ltb a s h)
+  unfolding happening all
+  passed_by s h = grind (arith, choices)
 
   -- of two stamps that are still to happen, the later changes nothing
   sooner : (s t : ℕ) → a < s → s < t → earlier (happening a b (Some s)) (happening a b (Some t)) ≡ happening a b (Some s)
-  unfolding happening earlier all when◌then◌else◌
-  sooner s t h k =
-      cases (leb s b)
-      (λ e.
-      cases (leb t b)
-      (λ f. simp (lt-ltb a s h, lt-ltb a t (omega arith), e, f, le-leb s t (omega arith)))
-      (λ f. simp (lt-ltb a s h, lt-ltb a t (omega arith), e, f)))
-      (λ e. simp (lt-ltb a s h, lt-ltb a t (omega arith), e, lt-leb t b (omega (arith, leb-false s b e))))
+  unfolding happening earlier all
+  sooner s t h k = grind (arith, choices)
 
   -- the first of stamps that rise and are still to happen is the earliest
   soonest : (s : ℕ) (stamps : List ℕ) → a < s → rising_from s stamps ≡ true → earliest a b (s ∷ stamps) ≡ happening a b (Some s)
   unfolding earliest
   soonest s [] h r = earlier_never (happening a b (Some s))
   soonest s (t ∷ stamps) h r =
-      let k = rising_cons s t stamps r in
-      rw (soonest t stamps (omega arith) k.1) (sooner s t h k.0)
+      let k = rising_cons s t stamps r in rw (soonest t stamps (omega arith) k.1) (sooner s t h k.0)
 
 -- ---- the index of the upcoming stamp
 
 -- the stamp at an index of no stamps, at the first index, at a later one
 stamp_none : (upcoming : ℕ) → stamp_at [] upcoming ≡ None
-unfolding stamp_at when◌then◌else◌
-stamp_none upcoming = rw (le-ltb upcoming 0 (omega arith))
+unfolding stamp_at
+stamp_none upcoming = grind (arith, choices)
 
 stamp_first : (s : ℕ) (stamps : List ℕ) → stamp_at (s ∷ stamps) 0 ≡ Some s
-unfolding stamp_at when◌then◌else◌
-stamp_first s stamps = rw (lt-ltb 0 (suc (length stamps)) (omega arith))
+unfolding stamp_at
+stamp_first s stamps = grind (arith, choices)
 
 stamp_later : (s : ℕ) (stamps : List ℕ) (upcoming : ℕ) → stamp_at (s ∷ stamps) (suc upcoming) ≡ stamp_at stamps upcoming
-unfolding stamp_at when◌then◌else◌
-stamp_later s stamps upcoming =
-    cases (ltb upcoming (length stamps))
-    (λ e. simp (e, lt-ltb (suc upcoming) (suc (length stamps)) (omega (arith, ltb-true upcoming (length stamps) e))))
-    (λ e. simp (e, le-ltb (suc upcoming) (suc (length stamps)) (omega (arith, ltb-false upcoming (length stamps) e))))
+unfolding stamp_at
+stamp_later s stamps upcoming = grind (arith, choices)
 
 -- an index less the first stamp
 upcoming_tail : (s : ℕ) (stamps : List ℕ) (a upcoming : ℕ) → IsUpcoming (s ∷ stamps) a (suc upcoming) → IsUpcoming stamps a upcoming
@@ -95,8 +84,7 @@ upcoming_earliest a b stamps upcoming t p = upcoming_rising a b 0 stamps upcomin
 module _ (stamps : List ℕ) (clock upcoming : ℕ) where
   -- the clock goes on
   pub passed_later : (later : ℕ) → clock ≤ later → IsUpcoming stamps clock upcoming → StampsPassed stamps later upcoming
-  passed_later later h p =
-      record { fits = p.passed.fits; gone = λ i k. let g = p.passed.gone i k in omega arith }
+  passed_later later h p = grind arith
 
   -- the stamps further on that the clock has passed are counted: what is behind them is upcoming
   module _ (k : ℕ) (e : k ≡ prefix_len (λ stamp. leb stamp clock) (drop upcoming stamps)) (p : StampsPassed stamps clock upcoming) where
@@ -106,46 +94,24 @@ module _ (stamps : List ℕ) (clock upcoming : ℕ) where
     -- one of those that are counted
     counted : (i : ℕ) → i < k → get_or stamps (upcoming + i) 0 ≤ clock
     unfolding ahead
-    counted i h =
-        leb-true _ _ (ap (λ (s : ℕ). leb s clock) (sym (get_or-drop upcoming stamps i 0)) ∙ prefix_len_passes (λ stamp. leb stamp clock) ahead i 0 (rw (sym e) h))
+    counted i h = grind (arith, get_or-drop upcoming stamps i 0, prefix_len_passes (λ stamp. leb stamp clock) ahead i 0)
 
     -- the one behind them
     not_counted : upcoming + k < length stamps → clock < get_or stamps (upcoming + k) 0
     unfolding ahead
     not_counted h =
-        let l : k < length ahead = rw length-drop (omega arith) in
-        leb-false _ _ (ap (λ (s : ℕ). leb s clock) (sym (get_or-drop upcoming stamps k 0))
-        ∙ ap (λ (j : ℕ). leb (get_or ahead j 0) clock) e ∙ prefix_len_stops (λ stamp. leb stamp clock) ahead 0 (rw (sym e) l))
+        grind (arith, get_or-drop upcoming stamps k 0, length-drop upcoming stamps, prefix_len_stops (λ stamp. leb stamp clock) ahead 0)
 
-    pub upcoming_counted : timetable stamps ≡ true → upcoming + k ≤ length stamps → IsUpcoming stamps clock (upcoming + k)
-    upcoming_counted t f =
+    pub upcoming_counted : timetable stamps ≡ true → IsUpcoming stamps clock (upcoming + k)
+    upcoming_counted t =
         record {
           passed = record {
-            fits = f;
-            gone = λ i h.
-                cases (ltb i upcoming)
-                (λ b. p.gone i (ltb-true i upcoming b))
-                (λ b.
-                let o = ltb-false i upcoming b in
-                let j : upcoming + (i - upcoming) ≡ i = omega arith in
-                let c = counted (i - upcoming) (omega arith) in
-                rw j at c);
+            fits = let f = p.fits in omega (arith, prefix_len-le-length (λ stamp. leb stamp clock) (drop upcoming stamps), length-drop upcoming stamps);
+            gone = λ i h. grind (arith, counted (i - upcoming));
           };
-          ahead = λ i h m.
-              let n = not_counted (omega arith) in
-              let o = rising_order 0 stamps (upcoming + k) i (timetable_rising stamps t) h m in
-              omega arith;
+          ahead = λ i h m. grind (arith, not_counted, rising_order 0 stamps (upcoming + k) i (timetable_rising stamps t));
         }
 
 -- no stamp stands before the first
 pub none_passed : (stamps : List ℕ) (clock : ℕ) → StampsPassed stamps clock 0
-none_passed stamps clock = record { fits = omega arith; gone = λ i h. absurd (omega arith) }
-
--- cycles that can pass from here on, later and fewer
-pub can_pass_later : {r : Requests} {clock n : ℕ} → CanPass r clock n → (later m : ℕ) → clock ≤ later → later + m ≤ clock + n
-    → CanPass r later m
-can_pass_later c later m h k =
-    record {
-      passed = record { fits = c.passed.fits; gone = λ i j. let g = c.passed.gone i j in omega arith };
-      room = let o = c.room in omega arith;
-    }
+none_passed stamps clock = grind arith

@@ -24,6 +24,7 @@ pub fn start_time() -> Time
 }
 
 // A request with this stamp happens while the clock passes from a to b.
+#[tactic(auto, using(base::proofs::Tests::choices), unfolding(base::specs::Test::all))]
 fn happens(a: u64, b: u64, stamp: u64) -> bool
     ensures { result ≡ happens a b stamp }
 {
@@ -75,25 +76,19 @@ fn count_passed(stamps: &[u64], clock: u64) -> usize
 }
 
 // The last clock value up to which a request does not happen: just before it, if it is still to happen.
+#[tactic(auto, using(base::proofs::Tests::choices), unfolding(definition::specs::Time::happening, base::specs::Test::all))]
 fn before_stamp(clock: u64, stamp: Option<u64>, until: u64) -> u64
     ensures { (result ≤ until) × NotHappeningUntil clock stamp result }
 {
     match stamp {
-        None => until,
-        Some(s) => {
-            if s <= clock {
-                return until;
-            }
-            if s <= until {
-                return s - 1;
-            }
-            until
-        }
+        Some(s) if clock < s && s <= until => s - 1,
+        _ => until,
     }
 }
 
 // While a request is pending others merge into it, so only the alarm counts; 0 where interrupts are not masked.
 // No Option: 0 is a clock value like any other, which no step ends at or before, and nobody asks whether it is 0.
+#[tactic(auto, using(base::proofs::Tests::choices), unfolding(definition::specs::Time::happening, base::specs::Test::all))]
 fn alarm_until(masked: bool, clock: u64, alarm: Option<u64>) -> u64
     ensures { (result ≤ last_clock) × NotHappeningUntil clock alarm result × (masked ≡ false → result ≡ 0) }
 {
@@ -112,6 +107,7 @@ pub fn emptied(t: Time) -> Time
 }
 
 // OUT of w: the alarm is set to clock + w, replacing any; 0 clears it.
+#[tactic(auto, using(base::proofs::Tests::choices), unfolding(definition::specs::Time::set_alarm))]
 pub fn set_alarm(t: Time, w: u16) -> Time
     ensures { t.clock ≤ clock_room → result ≡ set_alarm w t }
 {
@@ -119,7 +115,7 @@ pub fn set_alarm(t: Time, w: u16) -> Time
         return Time { alarm: None, ..t };
     }
     Time {
-        alarm: Some(t.clock.wrapping_add(w as u64)),
+        alarm: Some(t.clock.wrapping_add(u64::from(w))),
         ..t
     }
 }
@@ -132,7 +128,9 @@ pub fn device_word(t: Time) -> u16
     (t.clock % 65536) as u16
 }
 
-// The requests of a timetable, with the index of the upcoming one: the clock has passed the stamps before it.
+// The requests of a timetable, with the index of the upcoming one: the clock has passed the stamps before it. The layout goes beside them and in
+// no struct with them: what takes one of the two promises its result for every value of the other (docs/DECISIONS.md, *One record for what stays
+// fixed*). The clock that they are at is no field: the waits of one step look from one index at several clock values.
 #[derive(Clone, Copy)]
 pub struct Requests<'a> {
     pub timetable: Timetable<'a>,
@@ -144,14 +142,16 @@ impl<'a> Timetable<'a> {
     ghost use Rattle.clock.specs.Requests.{AtClock};
 
     // The requests at a clock value: the upcoming one is looked for from the first on.
+    #[tactic(auto, using(crate::proofs::UpcomingLaws::none_passed))]
     pub fn requests_at(self, clock: u64) -> Requests<'a>
         ensures timetable { result.timetable ≡ self.entry }
         ensures upcoming { AtClock result clock }
     {
-        Requests {
+        let first = Requests {
             timetable: self,
-            upcoming: count_passed(self.stamps, clock),
-        }
+            upcoming: 0,
+        };
+        first.at(clock)
     }
 }
 
@@ -181,19 +181,17 @@ impl<'a> Requests<'a> {
     }
 
     // n cycles pass, with the upcoming stamp: the only thing that moves the clock, fills the slot and rings the alarm.
+    #[tactic(auto, using(crate::proofs::UpcomingLaws::upcoming_earliest), unfolding(definition::specs::Time::pass, definition::specs::Time::request))]
     fn pass(self, t: Time, n: u64) -> Time
         ensures { (L : Layout) → t.clock + n ≤ clock_room → AtClock self.entry t.clock → result ≡ pass (setting_with L self.entry) n t }
     {
         let a = t.clock;
         let b = a.wrapping_add(n);
-        let slot = t.slot;
-        let alarm = t.alarm;
-        let next = self.stamp();
-        let request = earlier(happening(a, b, next), happening(a, b, alarm));
+        let request = earlier(happening(a, b, self.stamp()), happening(a, b, t.alarm));
         Time {
             clock: b,
-            slot: filled_by(slot, request),
-            alarm: alarm_left(a, b, alarm),
+            slot: filled_by(t.slot, request),
+            alarm: alarm_left(a, b, t.alarm),
         }
     }
 
@@ -208,15 +206,13 @@ impl<'a> Requests<'a> {
     pub fn no_event_until(self, halted: bool, masked: bool, t: Time) -> u64
         ensures { (L : Layout) → AtClock self.entry t.clock → NoEventUntil (setting_with L self.entry) masked t result × (halted ≡ true → result ≡ 0) }
     {
-        let slot = t.slot;
-        let alarm = t.alarm;
         if halted {
             return 0;
         }
-        match slot {
-            Some(_) => alarm_until(masked, t.clock, alarm),
+        match t.slot {
+            Some(_) => alarm_until(masked, t.clock, t.alarm),
             None => {
-                let until = before_stamp(t.clock, alarm, LAST_CLOCK);
+                let until = before_stamp(t.clock, t.alarm, LAST_CLOCK);
                 before_stamp(t.clock, self.stamp(), until)
             }
         }

@@ -1,6 +1,5 @@
 -- The fast way takes cycles and lengths from the table of instruction words. Assumes nothing.
-use mathlib.Core.Path.{sym}
-use mathlib.Core.Bool.{false}
+use Rattle.std.proofs.Common.{sym, false}
 use Rattle.isa.specs.Words.{reading}
 use Rattle.effect.specs.Laws.{EffectByTable}
 use Rattle.effect.proofs.FastWords.{acting_behind}

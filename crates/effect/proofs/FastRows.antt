@@ -1,9 +1,9 @@
 -- What a fast answer promises, and that each row of instruction words keeps it. Assumes nothing.
-use Rattle.std.proofs.Common.{◌≡◌, refl, sym, ◌∙◌, ap, Bool, true, false, not, true≢false, List, set, ℕ, ◌≤◌, ◌<◌, arith, ltb, eqb, Option, None, Some, Ok}
-use Rattle.std.proofs.lemmas.Bool.{ltb-false, ne_eqb, not-false}
-use Rattle.base.specs.Test.{when◌then◌else◌}
+use Rattle.std.proofs.Common.{◌≡◌, set-set, refl, sym, ◌∙◌, ap, Bool, true, false, not, true≢false, List, set, ℕ, ◌≤◌, ◌<◌, arith, ltb, eqb, Option, None, Some, Ok}
+use Rattle.std.proofs.lemmas.Bool.{ltb-false, not-false}
+use Rattle.base.specs.Test.{when◌then◌else◌, all}
 use Rattle.base.specs.Word.{drop_bit0}
-use Rattle.base.proofs.Tests.{every, when_true, when_false, choose}
+use Rattle.base.proofs.Tests.{choices, when_true, when_false, choose}
 use Rattle.rows.specs.declared.row.Operation.{Operation}
 use Rattle.rows.specs.declared.row.Operation.TheVariants.{Add, Sub, Cmp, And}
 use Rattle.rows.specs.declared.row.Row.{Row}
@@ -32,28 +32,19 @@ use Rattle.definition.specs.Act.{past, registers_after, memory_after}
 use Rattle.effect.specs.Effect.{affected, put_if, address_past, second_address, setting_pc, setting_register_in, leading_on, setting_on, computing, branching, immediate}
 use Rattle.effect.specs.Laws.{jumps}
 use Rattle.definition.proofs.cause.JudgeLaws.{second_fails}
-use Rattle.effect.proofs.FastSets.{set_twice, pc_set, compared, moved, stored}
+use Rattle.effect.proofs.FastSets.{pc_set, compared, moved, stored}
 
 -- a register above r3 may hold an address
 pub points : (n : ℕ) → 4 ≤ n → pointer n ≡ true
-unfolding pointer
-points n h =
-    every _ (
-      ap not (ne_eqb n 0 (λ e. absurd (omega arith))),
-      (
-        ap not (ne_eqb n 2 (λ e. absurd (omega arith))),
-        (ap not (ne_eqb n 3 (λ e. absurd (omega arith))), tt),
-      ),
-    )
+unfolding pointer all
+points n h = grind (arith, choices)
 
 module _ (L : Layout) (held : Bool) (rs mem : List ℕ) where
   -- an instruction acts that is neither barred inside nor RETI
   acting : (i : Instruction) → privileged i ≡ false → is_reti i ≡ false → all_may L (pc rs) read (reads rs i) ≡ true
       → all_may L (pc rs) write (writes rs i) ≡ true → judge_act L held rs i ≡ Ok i
   unfolding judge_act
-  acting i p r h k =
-      when_false _ _ _ (second_fails _ _ p) ∙ when_false _ _ _ (second_fails held _ r) ∙ when_false _ _ _ (ap not h)
-      ∙ when_false _ _ _ (ap not k)
+  acting i p r h k = grind (arith, choices, second_fails)
 
   -- what is begun acts, and the effect is what it does
   pub record Acting (b : Option Begun) (x y : ℕ) (e : Effect) : Type 0 where
@@ -117,7 +108,7 @@ module _ (L : Layout) (held : Bool) (rs mem : List ℕ) where
           acts = acting (Jmp s) refl refl refl refl;
           unbarred = refl;
           other = refl;
-          sets = λ t device. set_twice rs 0 _ _ ∙ pc_set rs _;
+          sets = λ t device. set-set rs 0 _ _ ∙ pc_set rs _;
           puts = refl;
           takes = refl;
           decodes = refl;
@@ -138,7 +129,7 @@ module _ (L : Layout) (held : Bool) (rs mem : List ℕ) where
     jz_jumps : zero_set (sr rs) ≡ true → (t : Bool) (device : ℕ)
         → registers_after t rs device mem (Jz s) ≡ set (set (set rs 0 (drop_bit0 (register rs s))) 0 (drop_bit0 (register rs s))) 2 (sr rs)
     unfolding registers_after past write_register when◌then◌else◌
-    jz_jumps h t device = when_true _ _ _ h ∙ (set_twice rs 0 _ _ ∙ pc_set rs _)
+    jz_jumps h t device = when_true _ _ _ h ∙ (set-set rs 0 _ _ ∙ pc_set rs _)
 
     jz_passes : zero_set (sr rs) ≡ false → (t : Bool) (device : ℕ)
         → registers_after t rs device mem (Jz s) ≡ set (set (set rs 0 (address_past (pc rs) (Jz s))) 0 (address_past (pc rs) (Jz s))) 2 (sr rs)

@@ -1,5 +1,5 @@
 -- The fast answer of any first word keeps its promise. Assumes nothing.
-use Rattle.std.proofs.Common.{◌≡◌, refl, sym, ap, subst, Bool, true, false, not, List, [], ◌∷◌, ℕ, ◌+◌, ◌*◌, ◌/◌, ◌%◌, ◌≤◌, ◌<◌, arith, ltb, eqb, Option, None, Some}
+use Rattle.std.proofs.Common.{◌≡◌, refl, sym, ap, subst, Bool, true, false, not, List, [], ◌∷◌, ℕ, ◌*◌, ◌/◌, ◌%◌, ◌≤◌, ◌<◌, arith, ltb, eqb, Option, None, Some}
 use Rattle.std.proofs.lemmas.Bool.{ltb-false, eqb-true, not-false}
 use Rattle.base.specs.Test.{when◌then◌else◌, all}
 use Rattle.base.specs.Word.{drop_bit0}
@@ -54,16 +54,12 @@ module _ (L : Layout) (held : Bool) (rs mem : List ℕ) (w : ℕ) where
         let x = register rs (w / 256 % 16) in
         choose Word (eqb (w % 16) 0)
         (λ e.
-        let f = eqb-true (w % 16) 0 e in
-        in_row JMP (setting_pc (Jmp (w / 256 % 16)) (drop_bit0 x) (sr rs) false) (has JMP w (omega arith) refl)
+        in_row JMP (setting_pc (Jmp (w / 256 % 16)) (drop_bit0 x) (sr rs) false) (has JMP w (omega (arith, eqb-true)) refl)
         (jmp_agrees L held rs mem (w / 256 % 16) 0 x (register rs (w % 16)) (omega arith)))
         (λ e. choose Word (all (eqb (w / 256 % 16) 3 ∷ eqb (w % 16) 3 ∷ []))
         (λ k.
         let t = each (eqb (w / 256 % 16) 3 ∷ eqb (w % 16) 3 ∷ []) k in
-        let f = eqb-true (w / 256 % 16) 3 t.0 in
-        let g = eqb-true (w % 16) 3 t.1.0 in
-        let q : w ≡ w / 4096 * 4096 + w / 256 % 16 * 256 + w / 16 % 16 * 16 + w % 16 = omega arith in
-        in_row NOP (leading_on (pc rs) Nop (sr rs) false) (has NOP w (omega arith) refl)
+        in_row NOP (leading_on (pc rs) Nop (sr rs) false) (has NOP w (omega (arith, eqb-true)) refl)
         (nop_agrees L held rs mem 0 0 x (register rs (w % 16)) (omega arith)))
         (λ k. let i : Instruction = Mov (Register (w / 256 % 16)) (w % 16) in
         when_general i (address_past (pc rs) i) x (sr rs)
@@ -80,8 +76,7 @@ module _ (L : Layout) (held : Bool) (rs mem : List ℕ) (w : ℕ) where
         when may L (pc rs) read (drop_bit0 x) then setting_on (pc rs) i (w % 16) (word_at mem x) (sr rs) else None in
         unless L held rs mem (begun w) x (register rs (w % 16)) (ltb (w / 256 % 16) 4) q
         (λ h.
-        let k = ltb-false (w / 256 % 16) 4 h in
-        in_row LOAD q (has LOAD w (omega arith) (points (w / 256 % 16) k))
+        in_row LOAD q (has LOAD w (omega arith) (points (w / 256 % 16) (ltb-false _ 4 h)))
         (load_agrees L held rs mem (w / 256 % 16) (w % 16) x (register rs (w % 16)) low))
 
     constant_word : w / 16 % 16 ≡ 3 → Word (constant (pc rs) (sr rs) L mem (w / 256 % 16) (w % 16))
@@ -93,8 +88,8 @@ module _ (L : Layout) (held : Bool) (rs mem : List ℕ) (w : ℕ) where
         when same_side L (pc rs) second then immediate (pc rs) (sr rs) (word_at mem second) (w % 16) else None in
         unless L held rs mem (begun w) x (register rs (w % 16)) (not (eqb (w / 256 % 16) 0)) q
         (λ h.
-        let k = eqb-true (w / 256 % 16) 0 (not-false _ h) in
-        in_row IMMEDIATE q (has IMMEDIATE w (omega arith) refl)
+        let k = not-false _ h in
+        in_row IMMEDIATE q (has IMMEDIATE w (omega (arith, eqb-true)) refl)
         (constant_agrees L held rs mem 0 (w % 16) x (register rs (w % 16)) low))
 
     store_word : w / 16 % 16 ≡ 8 → Word (storing (pc rs) (sr rs) L mem (register rs (w % 16)) (w / 256 % 16) (w % 16))
@@ -110,8 +105,7 @@ module _ (L : Layout) (held : Bool) (rs mem : List ℕ) (w : ℕ) where
         else None in
         unless L held rs mem (begun w) (register rs (w / 256 % 16)) y (ltb (w % 16) 4) q
         (λ h.
-        let k = ltb-false (w % 16) 4 h in
-        in_row STORE q (has STORE w (omega arith) (points (w % 16) k)) (store_agrees L held rs mem (w / 256 % 16) (w % 16)))
+        in_row STORE q (has STORE w (omega arith) (points (w % 16) (ltb-false _ 4 h))) (store_agrees L held rs mem (w / 256 % 16) (w % 16)))
 
     move_word : Word
         (moving (pc rs) (sr rs) L mem (register rs (w / 256 % 16)) (register rs (w % 16)) (w / 256 % 16) (w / 16 % 16) (w % 16))
@@ -132,8 +126,7 @@ module _ (L : Layout) (held : Bool) (rs mem : List ℕ) (w : ℕ) where
       let q : Option Effect = computing (pc rs) (sr rs) o (w / 256 % 16) (w % 16) (computed o x y) in
       provided L held rs mem (begun w) x y (eqb (w / 16 % 16) 0) q
       (λ e.
-      let z = eqb-true (w / 16 % 16) 0 e in
-      in_row (COMPUTE o) q (has (COMPUTE o) w (omega arith) refl) (compute_agrees L held rs mem (w / 256 % 16) (w % 16) x y low o))
+      in_row (COMPUTE o) q (has (COMPUTE o) w (omega (arith, eqb-true)) refl) (compute_agrees L held rs mem (w / 256 % 16) (w % 16) x y low o))
 
   jump_word : w / 16 ≡ 3 → Word (branching (pc rs) (sr rs) (register rs (w % 16)) (w % 16))
   unfolding first_word
@@ -146,10 +139,10 @@ module _ (L : Layout) (held : Bool) (rs mem : List ℕ) (w : ℕ) where
   unfolding fast_effect
   fast_agrees =
       choose Word (eqb (w / 4096) 4) (λ e. move_word (eqb-true _ _ e))
-      (λ _. choose Word (eqb (w / 4096) 5) (λ e. let g = eqb-true (w / 4096) 5 e in group_word Add (omega arith))
-      (λ _. choose Word (eqb (w / 4096) 8) (λ e. let g = eqb-true (w / 4096) 8 e in group_word Sub (omega arith))
-      (λ _. choose Word (eqb (w / 4096) 9) (λ e. let g = eqb-true (w / 4096) 9 e in group_word Cmp (omega arith))
-      (λ _. choose Word (eqb (w / 4096) 15) (λ e. let g = eqb-true (w / 4096) 15 e in group_word And (omega arith))
+      (λ _. choose Word (eqb (w / 4096) 5) (λ e. group_word Add (omega (arith, eqb-true)))
+      (λ _. choose Word (eqb (w / 4096) 8) (λ e. group_word Sub (omega (arith, eqb-true)))
+      (λ _. choose Word (eqb (w / 4096) 9) (λ e. group_word Cmp (omega (arith, eqb-true)))
+      (λ _. choose Word (eqb (w / 4096) 15) (λ e. group_word And (omega (arith, eqb-true)))
       (λ _. provided L held rs mem (begun w) (register rs (w / 256 % 16)) (register rs (w % 16)) (eqb (w / 16) 3)
       (branching (pc rs) (sr rs) (register rs (w % 16)) (w % 16)) (λ e. jump_word (eqb-true _ _ e)))))))
 

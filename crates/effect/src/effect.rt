@@ -18,6 +18,16 @@ use layout::sections::Layout;
 use rows::row::Operation;
 use storage::memory::word_at;
 
+// What a fast step begins with: the instruction's address, the status, and the registers that the second and the last digit of its first word
+// name. Layout and memory go beside it: they are the machine's, and the memory stays lent.
+#[derive(Clone, Copy)]
+pub struct Fetched {
+    pub address: u16,
+    pub status: u16,
+    pub x: u16,
+    pub y: u16,
+}
+
 // What a fast step sets, in this order: pc, one more register by its number, the status; whether it puts its source; its cycles.
 #[derive(Clone, Copy)]
 pub struct Effect {
@@ -33,7 +43,7 @@ pub struct Effect {
 fn address_past(a: u16, i: Instruction) -> u16
     ensures { result ≡ address_past a i }
 {
-    sum(a, 2 * (i.length() as u16))
+    sum(a, 2 * u16::from(i.length()))
 }
 
 // The address of the second word of the instruction at a.
@@ -47,10 +57,10 @@ fn second_address(a: u16) -> u16
 fn cycles_of(i: Instruction) -> u64
     ensures { result ≡ cycles_of i }
 {
-    i.cycles() as u64
+    u64::from(i.cycles())
 }
 
-// Only pc is set.
+// Only pc is set. It stands for the one more register too: with an Option the loop would have a case more.
 fn set_pc(to: u16, status: u16, puts: bool, cycles: u64) -> Option<Effect>
     ensures { result ≡ setting_pc_in to status puts cycles }
 {
@@ -65,6 +75,7 @@ fn set_pc(to: u16, status: u16, puts: bool, cycles: u64) -> Option<Effect>
 }
 
 // Pc is set, and a register above r3.
+#[tactic(auto, using(base::proofs::Tests::choices), unfolding(crate::specs::Effect::setting_register_in))]
 fn set_general(to: u16, d: u8, w: u16, status: u16, cycles: u64) -> Option<Effect>
     ensures { result ≡ setting_register_in to d w status cycles }
 {
@@ -82,194 +93,169 @@ fn set_general(to: u16, d: u8, w: u16, status: u16, cycles: u64) -> Option<Effec
 }
 
 // ADD, SUB, CMP, AND.
-fn fast_compute(a: u16, status: u16, x: u16, y: u16, o: Operation, s: u8, d: u8) -> Option<Effect>
-    ensures { result ≡ computing a status o s d (computed o x y) }
+fn fast_compute(f: Fetched, o: Operation, s: u8, d: u8) -> Option<Effect>
+    ensures { result ≡ computing f.address f.status o s d (computed o f.x f.y) }
 {
     let i = Instruction::Compute(o, s, d);
-    let next = address_past(a, i);
+    let next = address_past(f.address, i);
     let cycles = cycles_of(i);
-    let c = compute(o, x, y);
+    let c = compute(o, f.x, f.y);
     match o {
-        Operation::Add => set_general(next, d, c.result, set_flags(status, c), cycles),
-        Operation::Sub => set_general(next, d, c.result, set_flags(status, c), cycles),
-        Operation::Cmp => set_pc(next, set_flags(status, c), false, cycles),
-        Operation::And => set_general(next, d, c.result, set_flags(status, c), cycles),
+        Operation::Cmp => set_pc(next, set_flags(f.status, c), false, cycles),
+        _ => set_general(next, d, c.result, set_flags(f.status, c), cycles),
     }
 }
 
 // Those by the third digit.
-fn fast_group(
-    a: u16,
-    status: u16,
-    x: u16,
-    y: u16,
-    o: Operation,
-    s: u8,
-    c: u8,
-    d: u8,
-) -> Option<Effect>
-    ensures { result ≡ grouped a status x y o s c d }
+#[tactic(auto, using(base::proofs::Tests::choices), unfolding(crate::specs::Effect::grouped))]
+fn fast_group(f: Fetched, o: Operation, s: u8, c: u8, d: u8) -> Option<Effect>
+    ensures { result ≡ grouped f.address f.status f.x f.y o s c d }
 {
     if c == 0 {
-        return fast_compute(a, status, x, y, o, s, d);
+        return fast_compute(f, o, s, d);
     }
     None
 }
 
 // JZ.
-fn fast_branch(a: u16, status: u16, x: u16, s: u8) -> Option<Effect>
-    ensures { result ≡ branching a status x s }
+#[tactic(auto, using(base::proofs::Tests::choices), unfolding(crate::specs::Effect::branching))]
+fn fast_branch(f: Fetched, d: u8) -> Option<Effect>
+    ensures { result ≡ branching f.address f.status f.y d }
 {
-    let i = Instruction::Jz(s);
-    if zero_is_set(status) {
-        return set_pc(drop_bit_0(x), status, false, cycles_of(i));
+    let i = Instruction::Jz(d);
+    if zero_is_set(f.status) {
+        return set_pc(drop_bit_0(f.y), f.status, false, cycles_of(i));
     }
-    set_pc(address_past(a, i), status, false, cycles_of(i))
+    set_pc(address_past(f.address, i), f.status, false, cycles_of(i))
 }
 
 // 4s0d: JMP, NOP, MOV s d.
 #[tactic(auto, using(base::proofs::Tests::choices), unfolding(crate::specs::Effect::registering, base::specs::Test::all))]
-fn fast_register(a: u16, status: u16, x: u16, s: u8, d: u8) -> Option<Effect>
-    ensures { result ≡ registering a status x s d }
+fn fast_register(f: Fetched, s: u8, d: u8) -> Option<Effect>
+    ensures { result ≡ registering f.address f.status f.x s d }
 {
     if d == 0 {
-        return set_pc(drop_bit_0(x), status, false, cycles_of(Instruction::Jmp(s)));
+        return set_pc(
+            drop_bit_0(f.x),
+            f.status,
+            false,
+            cycles_of(Instruction::Jmp(s)),
+        );
     }
     if s == 3 && d == 3 {
         let i = Instruction::Nop;
-        return set_pc(address_past(a, i), status, false, cycles_of(i));
+        return set_pc(address_past(f.address, i), f.status, false, cycles_of(i));
     }
     let i = Instruction::Mov(Operand::Register(s), d);
-    set_general(address_past(a, i), d, x, status, cycles_of(i))
+    set_general(address_past(f.address, i), d, f.x, f.status, cycles_of(i))
 }
 
 // 4s2d: MOV @s d.
-fn fast_load(
-    a: u16,
-    status: u16,
-    layout: Layout,
-    mem: &[u8],
-    x: u16,
-    s: u8,
-    d: u8,
-) -> Option<Effect>
-    ensures { result ≡ loading a status layout mem.now x s d }
+#[tactic(auto, using(base::proofs::Tests::choices), unfolding(crate::specs::Effect::loading))]
+fn fast_load(f: Fetched, layout: Layout, mem: &[u8], s: u8, d: u8) -> Option<Effect>
+    ensures { result ≡ loading f.address f.status layout mem.now f.x s d }
 {
     let i = Instruction::Mov(Operand::Pointed(s), d);
     if s < 4 {
         return None;
     }
-    if layout.may(a, Right::Read, drop_bit_0(x)) {
-        return set_general(address_past(a, i), d, word_at(mem, x), status, cycles_of(i));
+    if layout.may(f.address, Right::Read, drop_bit_0(f.x)) {
+        return set_general(
+            address_past(f.address, i),
+            d,
+            word_at(mem, f.x),
+            f.status,
+            cycles_of(i),
+        );
     }
     None
 }
 
 // 403d: MOV #w d.
-fn fast_constant(a: u16, status: u16, layout: Layout, mem: &[u8], s: u8, d: u8) -> Option<Effect>
-    ensures { result ≡ constant a status layout mem.now s d }
+#[tactic(auto, using(base::proofs::Tests::choices), unfolding(crate::specs::Effect::constant))]
+fn fast_constant(f: Fetched, layout: Layout, mem: &[u8], s: u8, d: u8) -> Option<Effect>
+    ensures { result ≡ constant f.address f.status layout mem.now s d }
 {
-    let second = second_address(a);
+    let second = second_address(f.address);
     if s != 0 {
         return None;
     }
-    if layout.same_side(a, second) {
+    if layout.same_side(f.address, second) {
         let w = word_at(mem, second);
         let i = Instruction::Mov(Operand::Constant(w), d);
-        return set_general(address_past(a, i), d, w, status, cycles_of(i));
+        return set_general(address_past(f.address, i), d, w, f.status, cycles_of(i));
     }
     None
 }
 
 // 4s8d: MOV s 0(d).
-fn fast_store(
-    a: u16,
-    status: u16,
-    layout: Layout,
-    mem: &[u8],
-    y: u16,
-    s: u8,
-    d: u8,
-) -> Option<Effect>
-    ensures { result ≡ storing a status layout mem.now y s d }
+#[tactic(auto, using(base::proofs::Tests::choices), unfolding(crate::specs::Effect::storing))]
+fn fast_store(f: Fetched, layout: Layout, mem: &[u8], s: u8, d: u8) -> Option<Effect>
+    ensures { result ≡ storing f.address f.status layout mem.now f.y s d }
 {
     let i = Instruction::Store(s, d);
-    let second = second_address(a);
+    let second = second_address(f.address);
     if d < 4 {
         return None;
     }
-    if !layout.same_side(a, second) {
+    if !layout.same_side(f.address, second) {
         return None;
     }
     if word_at(mem, second) != 0 {
         return None;
     }
-    if layout.may(a, Right::Write, drop_bit_0(y)) {
-        return set_pc(address_past(a, i), status, true, cycles_of(i));
+    if layout.may(f.address, Right::Write, drop_bit_0(f.y)) {
+        return set_pc(address_past(f.address, i), f.status, true, cycles_of(i));
     }
     None
 }
 
 // 4scd: the moves.
-fn fast_move(
-    a: u16,
-    status: u16,
-    layout: Layout,
-    mem: &[u8],
-    x: u16,
-    y: u16,
-    s: u8,
-    c: u8,
-    d: u8,
-) -> Option<Effect>
-    ensures { result ≡ moving a status layout mem.now x y s c d }
+#[tactic(auto, using(base::proofs::Tests::choices), unfolding(crate::specs::Effect::moving))]
+fn fast_move(f: Fetched, layout: Layout, mem: &[u8], s: u8, c: u8, d: u8) -> Option<Effect>
+    ensures { result ≡ moving f.address f.status layout mem.now f.x f.y s c d }
 {
     match c {
-        0 => fast_register(a, status, x, s, d),
-        2 => fast_load(a, status, layout, mem, x, s, d),
-        3 => fast_constant(a, status, layout, mem, s, d),
-        8 => fast_store(a, status, layout, mem, y, s, d),
+        0 => fast_register(f, s, d),
+        2 => fast_load(f, layout, mem, s, d),
+        3 => fast_constant(f, layout, mem, s, d),
+        8 => fast_store(f, layout, mem, s, d),
         _ => None,
     }
 }
 
 // JZ, or what is left to the step.
-fn fast_jump(a: u16, status: u16, y: u16, d: u8, w: u16) -> Option<Effect>
-    ensures { result ≡ (when eqb (w / 16) 3 then branching a status y d else None) }
+#[tactic(auto, using(base::proofs::Tests::choices))]
+fn fast_jump(f: Fetched, d: u8, w: u16) -> Option<Effect>
+    ensures { result ≡ (when eqb (w / 16) 3 then branching f.address f.status f.y d else None) }
 {
     if w / 16 == 3 {
-        return fast_branch(a, status, y, d);
+        return fast_branch(f, d);
     }
     None
 }
 
-// The second digit of a word. Each row asks for it on its own: held for all rows, it takes a register that the loop needs.
+// The second digit of a word. Each row asks for it on its own: handed down, it makes a step some instructions longer (docs/DECISIONS.md, *Fast steps
+// look at the digits*).
 fn second_digit(w: u16) -> u8
     ensures { result ≡ w / 256 % 16 }
 {
     (w / 256 % 16) as u8
 }
 
-// What the instruction at a does, whose first word is w.
-pub fn fast_effect(
-    a: u16,
-    status: u16,
-    layout: Layout,
-    mem: &[u8],
-    x: u16,
-    y: u16,
-    w: u16,
-) -> Option<Effect>
-    ensures { result ≡ fast_effect a status layout mem.now x y w }
+// What an instruction does, whose first word is w.
+#[tactic(auto, using(base::proofs::Tests::choices), unfolding(crate::specs::Effect::fast_effect))]
+pub fn fast_effect(f: Fetched, layout: Layout, mem: &[u8], w: u16) -> Option<Effect>
+    ensures { result ≡ fast_effect f.address f.status layout mem.now f.x f.y w }
 {
     let c = (w / 16 % 16) as u8;
     let d = (w % 16) as u8;
     match w / 4096 {
-        4 => fast_move(a, status, layout, mem, x, y, second_digit(w), c, d),
-        5 => fast_group(a, status, x, y, Operation::Add, second_digit(w), c, d),
-        8 => fast_group(a, status, x, y, Operation::Sub, second_digit(w), c, d),
-        9 => fast_group(a, status, x, y, Operation::Cmp, second_digit(w), c, d),
-        15 => fast_group(a, status, x, y, Operation::And, second_digit(w), c, d),
-        _ => fast_jump(a, status, y, d, w),
+        4 => fast_move(f, layout, mem, second_digit(w), c, d),
+        5 => fast_group(f, Operation::Add, second_digit(w), c, d),
+        8 => fast_group(f, Operation::Sub, second_digit(w), c, d),
+        9 => fast_group(f, Operation::Cmp, second_digit(w), c, d),
+        15 => fast_group(f, Operation::And, second_digit(w), c, d),
+        _ => fast_jump(f, d, w),
     }
 }

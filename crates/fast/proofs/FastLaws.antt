@@ -1,9 +1,6 @@
 -- The fast way of a step does what the step does. Assumes nothing.
-use Rattle.answers.specs.declared.answer.Cause.{Cause}
-use Rattle.isa.specs.declared.instruction.Instruction.{Instruction}
-use Rattle.std.proofs.Common.{◌≡◌, refl, sym, ◌∙◌, ap, Bool, true, false, true≢false, List, ℕ, arith, Option, None, Result}
-use Rattle.std.proofs.lemmas.Bool.{not-true}
-use Rattle.base.proofs.Tests.{cases, when_false, choose, choose_both}
+use Rattle.std.proofs.Common.{◌≡◌, ◌∙◌, ap, Bool, true, false, List, ℕ, arith, Option, None}
+use Rattle.base.proofs.Tests.{cases, choices}
 use Rattle.rows.specs.declared.read.Begun.{Begun}
 use Rattle.rows.specs.Words.{begun}
 use Rattle.isa.specs.Cycles.{cycles_of}
@@ -34,9 +31,7 @@ use Rattle.effect.proofs.FastRows.{Acting}
 pub fetched_judged : (L : Layout) (held : Bool) (rs mem : List ℕ) (previous : ℕ) → fetchable L held previous (pc rs) ≡ true
     → judge L held rs mem previous ≡ judge_first L held rs mem (begun (word_at mem (pc rs)))
 unfolding fetchable judge
-fetched_judged L held rs mem previous =
-    choose_both (λ (t : Bool) (j : Result Instruction Cause). t ≡ true → j ≡ judge_first L held rs mem (begun (word_at mem (pc rs)))) _
-    (λ h e. absurd (true≢false (sym e))) (λ h e. when_false _ _ _ (not-true _ e))
+fetched_judged L held rs mem previous = grind (arith, choices)
 
 -- the machine after an effect
 abbrev pub after_effect : Effect → State → State
@@ -50,16 +45,6 @@ after_effect e m =
       halted = false;
     }
 
--- no interrupt is due while the slot is empty
-none_due : (m : State) → m.time.slot ≡ None → due m ≡ None
-unfolding due
-none_due m e = choose (λ (z : Option ℕ). z ≡ None) _ (λ h. e) (λ h. refl)
-
--- and none of a masked machine
-masked_due : (m : State) → gie (sr m.registers) ≡ false → due m ≡ None
-unfolding due
-masked_due m e = when_false _ _ _ e
-
 module _ (S : Setting) (m : State) (mem : List ℕ) (running : m.halted ≡ false) where
   module _ (b : Option Begun) (x y : ℕ) (e : Effect) (a : Acting S.layout (is_held m.context) m.registers mem b x y e)
       (judging : judged S (world m mem) ≡ judge_first S.layout (is_held m.context) m.registers mem b)
@@ -71,14 +56,14 @@ module _ (S : Setting) (m : State) (mem : List ℕ) (running : m.halted ≡ fals
         set_gie false _ 2 _ (λ k. a.gie_kept ∙ gie_clear h)
         (set_gie false _ e.number _ (λ k. absurd (a.general k)) (set_gie false m.registers 0 _ (λ k. absurd (omega arith)) (gie_clear h)))
 
+    -- no interrupt is due: the slot is empty, or the machine is masked
     acting_due : due (after_effect e m) ≡ None
-    acting_due = cases masked (λ h. masked_due (after_effect e m) (acting_gie_clear h)) (λ h. none_due (after_effect e m) (empty h))
+    unfolding due
+    acting_due = cases masked (λ h. let g = acting_gie_clear h in grind (arith, choices)) (λ h. let s = empty h in grind (arith, choices))
 
     acting_time : alarmed m.registers a.instruction (pass S (cycles_of a.instruction) m.time)
         ≡ later e.cycles m.time
-    acting_time =
-        (unprivileged m.registers _ a.instruction a.unbarred).1
-        ∙ ap (λ (n : ℕ). pass S n m.time) a.takes ∙ still
+    acting_time = let t = (unprivileged m.registers (pass S (cycles_of a.instruction) m.time) a.instruction a.unbarred).1 in grind (arith, a.takes)
 
     acting_next : next S m mem a.instruction ≡ after_effect e m
     unfolding executed

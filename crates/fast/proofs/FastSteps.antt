@@ -1,15 +1,7 @@
 -- Fast steps in a row are steps. Assumes nothing.
-use Rattle.std.specs.Prelude.{Option, None, Some}
-use mathlib.Core.Path.{◌≡◌, refl, sym, ◌∙◌, ap, subst}
-use mathlib.Core.Bool.{Bool, true, false}
-use mathlib.Core.List.{List}
-use Prim.Native.Nat.{ℕ, ◌+◌, ◌/◌, ◌%◌, ◌≤◌, ◌<◌}
-use native.Mathlib.Omega.{arith}
-use lib.Dec.{eqb}
-use lib.ListN.{length, get_or}
-use borrow.Author.Tests.{ne_eqb}
+use Rattle.std.proofs.Common.{Option, None, Some, ◌≡◌, refl, sym, ◌∙◌, ap, subst, Bool, true, false, List, ℕ, ◌+◌, ◌/◌, ◌%◌, ◌≤◌, ◌<◌, arith, length, get_or}
 use Rattle.base.specs.Test.{when◌then◌else◌}
-use Rattle.base.proofs.Tests.{cases, choose, when_false}
+use Rattle.base.proofs.Tests.{choices}
 use Rattle.base.specs.Limits.{memory_bytes, last_clock}
 use Rattle.rows.specs.Words.{begun}
 use Rattle.alu.specs.Status.{gie}
@@ -49,9 +41,7 @@ saved_again (Some _) saved = refl
 -- after one more step
 saved_on : (v : Option SavedContext) (saved : List ℕ) (k n : ℕ) → n ≡ k + 1 → saved_after n v saved ≡ saved_for v (saved_after k v saved)
 unfolding saved_after
-saved_on v saved k n e =
-    when_false _ _ _ (ne_eqb n 0 (λ z. absurd (omega arith)))
-    ∙ sym (choose (λ (z : List ℕ). saved_for v z ≡ saved_for v saved) (eqb k 0) (λ h. refl) (λ h. saved_again v saved))
+saved_on v saved k n e = grind (arith, choices, saved_again)
 
 -- ---- fast steps in a row
 
@@ -63,15 +53,11 @@ module _ (L : Layout) (held : Bool) (s : FastState) (w : ℕ) (e : Effect) (does
   acting_at = acting_behind L held s.registers s.memory w e does
 
   pub effect_few : (1 ≤ e.cycles) × (e.cycles ≤ most_fast_cycles)
-  effect_few =
-      let r = cycles_range acting_at.instruction in
-      let t = acting_at.takes in
-      (omega arith, omega arith)
+  effect_few = let t = acting_at.takes in grind (arith, cycles_range)
 
 put_if_length : (puts : Bool) (mem : List ℕ) (a w : ℕ) → length (put_if puts mem a w) ≡ length mem
 unfolding put_if
-put_if_length puts mem a w =
-    choose (λ (z : List ℕ). length z ≡ length mem) puts (λ h. put_length mem a w) (λ h. refl)
+put_if_length puts mem a w = grind (arith, choices, put_length)
 
 -- what the loop of fast steps keeps
 pub record FastLoop (L : Layout) (held : Bool) (until left : ℕ) (from s : FastState) (k : ℕ) : Type 0 where
@@ -90,7 +76,7 @@ module _
   fast_loop_next early bytes b =
       let h = (effect_few L held s w e does).1 in
       record {
-        size = ap (λ (z : List ℕ). length z) b ∙ put_if_length _ s.memory _ _ ∙ q.size;
+        size = grind (arith, b, put_if_length, q.size);
         ran =
             one_more k (k + 1) s _ w e q.ran near f word does
             (ap (λ (z : List ℕ). fast_state (applied e w s).registers (applied e w s).previous (applied e w s).clock z) b) refl;
@@ -133,7 +119,7 @@ module _ (S : Setting) where
         (count : n ≡ k + 1) where
       -- the machine runs
       awake : c.halted ≡ false
-      awake = cases c.halted (λ h. let z = halting h in absurd (omega arith)) (λ h. h)
+      awake = grind arith
 
       fits : Acting S.layout (is_held c.context) s.registers s.memory (begun w)
           (register s.registers (w / 256 % 16)) (register s.registers (w % 16)) e
@@ -151,10 +137,10 @@ module _ (S : Setting) where
           ∙ ap (λ (z : ℕ). judge_first S.layout (is_held c.context) s.registers s.memory (begun z)) (sym word)
 
       goes_on : pass S e.cycles (time_at c.time s.clock) ≡ later e.cycles (time_at c.time s.clock)
-      goes_on = q.going.passes e.cycles few.0 (let h = few.1 in omega arith)
+      goes_on = q.going.passes e.cycles few.0 (omega (arith, few.1))
 
       nothing_pending : masked ≡ false → c.time.slot ≡ None
-      nothing_pending = q.going.empty e.cycles few.0 (let h = few.1 in omega arith)
+      nothing_pending = q.going.empty e.cycles few.0 (omega (arith, few.1))
 
       stays_gie_clear : masked ≡ true → gie (sr (after_effect e (machine_at k s)).registers) ≡ false
       unfolding register

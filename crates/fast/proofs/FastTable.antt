@@ -1,5 +1,5 @@
 -- The effects of fast steps are the table's, and take no more cycles than a fast step is given. Assumes nothing.
-use mathlib.Core.Bool.{false}
+use Rattle.std.proofs.Common.{false}
 use Rattle.definition.specs.Registers.{register}
 use Rattle.effect.specs.Laws.{EffectByTable}
 use Rattle.effect.proofs.EffectTable.{effect_by_table}

@@ -6,7 +6,7 @@ ghost use Rattle.effect.specs.Effect.{put_if};
 ghost use Rattle.fast.specs.Steps.{fetchable, fast_state, FastSteps};
 
 use base::limits::{LAST_CLOCK, MEMORY_BYTES};
-use effect::effect::fast_effect;
+use effect::effect::{Fetched, fast_effect};
 use layout::access::Right;
 use layout::sections::Layout;
 use storage::memory::{put_word, word_at};
@@ -37,6 +37,7 @@ fn may_fetch(layout: Layout, held: bool, previous: u16, pc: u16) -> bool
 }
 
 // Puts a word, if one is to be put.
+#[tactic(auto, using(base::proofs::Tests::choices), unfolding(effect::specs::Effect::put_if))]
 fn put_if(puts: bool, mem: &mut [u8], a: u16, w: u16)
     ensures { mem.new ≡ put_if puts mem.old a w }
 {
@@ -45,7 +46,9 @@ fn put_if(puts: bool, mem: &mut [u8], a: u16, w: u16)
     }
 }
 
-// Fast steps, as many as there are and as are left, each begun early enough to be over at the clock value `until`.
+// Fast steps, as many as there are and as are left, each begun early enough to be over at the clock value `until`. What is beside the registers comes
+// as numbers and in no `Control`, which would go through memory (docs/DECISIONS.md, *The loop over step*).
+#[tactic(auto, using(crate::specs::Steps::no_step))]
 fn fast_loop(
     registers: &mut [u16; 16],
     previous: u16,
@@ -64,7 +67,7 @@ fn fast_loop(
     let mut last = previous;
     let mut time = clock;
     let mut steps: u64 = 0;
-    // No `for`: `steps` is an answer, and where the loop ends is for what it meets.
+    // No `for`: `steps` is an answer, which would be made at each of the three ends and behind the loop.
     while steps < left {
         if until < time + MOST_FAST_CYCLES {
             break;
@@ -74,13 +77,17 @@ fn fast_loop(
             break;
         }
         let w = word_at(mem, pc);
-        let x = registers[(w / 256 % 16) as usize];
-        let y = registers[(w % 16) as usize];
-        let Some(e) = fast_effect(pc, registers[2], layout, mem, x, y, w) else {
+        let fetched = Fetched {
+            address: pc,
+            status: registers[2],
+            x: registers[usize::from(w / 256 % 16)],
+            y: registers[usize::from(w % 16)],
+        };
+        let Some(e) = fast_effect(fetched, layout, mem, w) else {
             break;
         };
-        let n = (e.number % 16) as usize;
-        put_if(e.puts, mem, y, x);
+        let n = usize::from(e.number % 16);
+        put_if(e.puts, mem, fetched.y, fetched.x);
         registers[0] = e.to;
         registers[n] = e.word;
         registers[2] = e.status;
@@ -96,6 +103,7 @@ fn fast_loop(
 }
 
 // The same whatever is lent: none where memory is not whole or a clock value is too late.
+#[tactic(auto, using(crate::specs::Steps::no_step))]
 pub fn fast_steps(
     registers: &mut [u16; 16],
     previous: u16,

@@ -56,24 +56,16 @@ pub fn reset_state(registers: [u16; 16], time: Time) -> State
 fn age_of(clock: u64, stamp: u64) -> u8
     ensures { (result ≡ age_of clock stamp) × (result ≤ 6) }
 {
-    if clock <= stamp {
-        return 0;
-    }
-    if 6 <= clock - stamp {
-        return 6;
-    }
-    (clock - stamp) as u8
+    clock.saturating_sub(stamp).min(6) as u8
 }
 
 // The interrupt that is due: GIE set and the slot filled.
+#[tactic(auto, using(base::proofs::Tests::choices), unfolding(definition::specs::Interrupt::due))]
 pub fn due_stamp(m: State) -> Option<u64>
     ensures { result ≡ due m }
 {
-    let registers = m.registers;
-    let time = m.time;
-    let slot = time.slot;
-    if gie_is_set(read_register(registers, 2)) {
-        return slot;
+    if gie_is_set(read_register(m.registers, 2)) {
+        return m.time.slot;
     }
     None
 }
@@ -83,10 +75,9 @@ pub fn due_stamp(m: State) -> Option<u64>
 pub fn reset(m: State, mem: &[u8], requests: Requests<'_>, cause: Cause) -> Answered<State, Outcome>
     ensures { (L : LAYOUT) → CanPass requests.entry m.time.clock 4 → result ≡ step_result (reset (setting_with L requests.entry) cause m mem.now) }
 {
-    let time = m.time;
     let registers = cleared_registers(reset_address(mem));
     Answered {
-        machine: reset_state(registers, emptied(requests.wait(time, 4))),
+        machine: reset_state(registers, emptied(requests.wait(m.time, 4))),
         answer: Outcome::Reset(cause),
     }
 }
@@ -103,6 +94,7 @@ fn pushed_registers(registers: [u16; 16], sp: u16, service: u16) -> [u16; 16]
 }
 
 // Plain: pc and sr are pushed, 6 cycles pass; a reset where either word is code or data.
+#[tactic(auto, unfolding(definition::specs::Interrupt::plain, definition::specs::Interrupt::reset, definition::specs::Time::emptied, base::specs::Test::all))]
 fn plain(
     m: State,
     mem: &mut [u8],
@@ -112,9 +104,6 @@ fn plain(
     ensures { CanPass requests.entry m.time.clock 6 → (result ≡ step_result (plain (setting_with layout requests.entry) m mem.old)) × (mem.new ≡ (plain (setting_with layout requests.entry) m mem.old).memory) }
 {
     let registers = m.registers;
-    let saved = m.saved;
-    let context = m.context;
-    let time = m.time;
     let high = difference(read_register(registers, 1), 2);
     let low = difference(read_register(registers, 1), 4);
     if !(layout.outside(high) && layout.outside(low)) {
@@ -122,38 +111,43 @@ fn plain(
     }
     put_word(mem, high, read_register(registers, 0));
     put_word(mem, low, read_register(registers, 2));
-    let after = requests.wait(emptied(time), 6);
+    let after = requests.wait(emptied(m.time), 6);
     Answered {
         machine: from_vector(
             pushed_registers(registers, low, layout.service),
             after,
-            context,
-            saved,
+            m.context,
+            m.saved,
         ),
         answer: Outcome::Plain,
     }
 }
 
 // Padded: 6 - age cycles pass, the slot empties, 6 more pass; registers, previous address and age are held.
+#[tactic(auto, unfolding(definition::specs::Interrupt::padded, definition::specs::Time::emptied, definition::specs::Time::pass))]
 fn padded(m: State, layout: Layout, requests: Requests<'_>, stamp: u64) -> Answered<State, Outcome>
     ensures { CanPass requests.entry m.time.clock 12 → result ≡ step_result (padded (setting_with layout requests.entry) stamp m []) }
 {
-    let registers = m.registers;
-    let time = m.time;
-    let age = age_of(time.clock, stamp);
-    let waited = requests.wait(time, (6 - age) as u64);
+    let age = age_of(m.time.clock, stamp);
+    let waited = requests.wait(m.time, u64::from(6 - age));
     let after = requests.wait(emptied(waited), 6);
     let context = Some(SavedContext {
         previous: m.previous,
         age,
     });
     Answered {
-        machine: from_vector(cleared_registers(layout.service), after, context, registers),
+        machine: from_vector(
+            cleared_registers(layout.service),
+            after,
+            context,
+            m.registers,
+        ),
         answer: Outcome::Padded,
     }
 }
 
 // A service starts after an instruction: padded if it was inside, else plain.
+#[tactic(auto, unfolding(definition::specs::Interrupt::interrupted, definition::specs::Interrupt::padded))]
 pub fn serve(
     m: State,
     mem: &mut [u8],
@@ -193,7 +187,7 @@ fn chained(
 fn back(time: Time, visit: SavedContext, saved: [u16; 16], requests: Requests<'_>) -> State
     ensures { (L : LAYOUT) → CanPass requests.entry time.clock visit.age → result ≡ back (setting_with L requests.entry) time visit.previous visit.age saved }
 {
-    let after = requests.wait(time, visit.age as u64);
+    let after = requests.wait(time, u64::from(visit.age));
     State {
         registers: saved,
         previous: visit.previous,
@@ -205,6 +199,7 @@ fn back(time: Time, visit: SavedContext, saved: [u16; 16], requests: Requests<'_
 }
 
 // RETI while a visit is held, its 5 cycles passed: chained if the slot is filled; else back, and the padded check once more.
+#[tactic(auto, unfolding(definition::specs::Interrupt::resumed, definition::specs::Interrupt::interrupted, definition::specs::Interrupt::back, definition::specs::Time::pass))]
 pub fn resume(
     time: Time,
     visit: SavedContext,
@@ -214,8 +209,7 @@ pub fn resume(
 ) -> Answered<State, Outcome>
     ensures { CanPass requests.entry time.clock (visit.age + 12) → result ≡ step_result (resumed (setting_with layout requests.entry) time visit.previous visit.age saved [] time.slot) }
 {
-    let slot = time.slot;
-    match slot {
+    match time.slot {
         Some(_) => chained(time, Some(visit), saved, layout, requests),
         None => {
             let m = back(time, visit, saved, requests);

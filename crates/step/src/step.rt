@@ -52,26 +52,24 @@ pub fn is_held(context: Option<SavedContext>) -> bool
 }
 
 // The machine after the instruction and its cycles; its address becomes the previous one.
+#[tactic(auto, unfolding(definition::specs::Step::executed, definition::specs::Time::pass))]
 fn execute(m: State, mem: &[u8], layout: Layout, requests: Requests<'_>, i: Instruction) -> State
     ensures { CanPass requests.entry m.time.clock 5 → result ≡ executed (setting_with layout requests.entry) m mem.now i }
 {
-    let registers = m.registers;
-    let saved = m.saved;
-    let context = m.context;
-    let time = m.time;
-    let pc = read_register(registers, 0);
-    let after = requests.wait(time, i.cycles() as u64);
+    let pc = read_register(m.registers, 0);
+    let after = requests.wait(m.time, u64::from(i.cycles()));
     State {
-        registers: registers_after(layout.inside(pc), registers, device_word(time), mem, i),
+        registers: registers_after(layout.inside(pc), m.registers, device_word(m.time), mem, i),
         previous: pc,
-        time: alarmed_time(registers, i, after),
-        context,
-        saved: saved_for(context, saved),
+        time: alarmed_time(m.registers, i, after),
+        context: m.context,
+        saved: saved_for(m.context, m.saved),
         halted: is_hlt(i),
     }
 }
 
 // An instruction that does not return from a held visit: HLT halts with no interrupt.
+#[tactic(auto, using(base::proofs::Tests::choices, definition::proofs::step::StepLaws::next_clock), unfolding(definition::specs::Step::ordinary, definition::specs::Interrupt::interrupted))]
 fn perform_ordinary(
     m: State,
     mem: &mut [u8],
@@ -81,16 +79,15 @@ fn perform_ordinary(
 ) -> Answered<State, Outcome>
     ensures { CanPass requests.entry m.time.clock 17 → (result ≡ step_result (ordinary (setting_with layout requests.entry) m mem.old i)) × (mem.new ≡ (ordinary (setting_with layout requests.entry) m mem.old i).memory) }
 {
-    let registers = m.registers;
     let next = execute(m, mem, layout, requests, i);
-    memory_after(registers, mem, i);
+    memory_after(m.registers, mem, i);
     if next.halted {
         return Answered {
             machine: next,
             answer: Outcome::Halted,
         };
     }
-    let inside = layout.inside(read_register(registers, 0));
+    let inside = layout.inside(read_register(m.registers, 0));
     match due_stamp(next) {
         None => Answered {
             machine: next,
@@ -101,6 +98,7 @@ fn perform_ordinary(
 }
 
 // RETI while a visit is held returns to it.
+#[tactic(auto, using(base::proofs::Tests::choices, interrupt::proofs::Yields::return_yields), unfolding(definition::specs::Step::performed, definition::specs::Time::pass))]
 fn perform(
     m: State,
     mem: &mut [u8],
@@ -110,22 +108,17 @@ fn perform(
 ) -> Answered<State, Outcome>
     ensures { CanPass requests.entry m.time.clock step_room → (result ≡ step_result (performed (setting_with layout requests.entry) m mem.old m.context i)) × (mem.new ≡ (performed (setting_with layout requests.entry) m mem.old m.context i).memory) }
 {
-    let saved = m.saved;
-    let context = m.context;
-    let time = m.time;
-    match context {
-        None => perform_ordinary(m, mem, layout, requests, i),
-        Some(visit) => {
-            if is_reti(i) {
-                let after = requests.wait(time, i.cycles() as u64);
-                return resume(after, visit, saved, layout, requests);
-            }
-            perform_ordinary(m, mem, layout, requests, i)
+    match m.context {
+        Some(visit) if is_reti(i) => {
+            let after = requests.wait(m.time, u64::from(i.cycles()));
+            resume(after, visit, m.saved, layout, requests)
         }
+        _ => perform_ordinary(m, mem, layout, requests, i),
     }
 }
 
 // One step; a halted machine answers "halted" unchanged.
+#[tactic(auto, using(base::proofs::Tests::choices), unfolding(definition::specs::Step::step, definition::specs::Step::step_judged, definition::specs::Interrupt::reset))]
 pub fn take_step(
     m: State,
     mem: &mut [u8],
@@ -140,9 +133,7 @@ pub fn take_step(
             answer: Outcome::Halted,
         };
     }
-    let registers = m.registers;
-    let context = m.context;
-    match judge(layout, is_held(context), registers, mem, m.previous) {
+    match judge(layout, is_held(m.context), m.registers, mem, m.previous) {
         Err(cause) => reset(m, mem, requests, cause),
         Ok(i) => perform(m, mem, layout, requests, i),
     }

@@ -1,4 +1,5 @@
-// A state whose registers are lent: they are changed where they lie, and the rest of it goes by value.
+// A state whose registers are lent: they are changed where they lie, and the rest of it goes by value. Registers and saved registers come apart,
+// and in no struct with the rest: the C interface lends them so.
 ghost use Rattle.std.specs.Prelude.{◌≡◌};
 ghost use Rattle.storage.specs.Control.{with_registers, control_of};
 

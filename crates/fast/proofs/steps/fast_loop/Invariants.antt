@@ -1,4 +1,4 @@
-use Prim.Native.Nat.{◌-◌}
+use Rattle.std.proofs.Common.{◌-◌}
 use Rattle.fast.specs.Steps.{fast_state}
 use Rattle.fast.proofs.FastSteps.{FastLoop}
 use Rattle.fast.proofs.steps.fast_loop.Given as goal
