@@ -23,10 +23,7 @@ fn registers_fit(registers: &[u16; 16]) -> bool
 fn slot_fits(clock: u64, slot: Option<u64>) -> bool
     ensures { result ≡ framed_slot clock slot }
 {
-    match slot {
-        None => true,
-        Some(s) => 0 < s && s <= clock,
-    }
+    slot.is_none_or(|s| 0 < s && s <= clock)
 }
 
 // An alarm is above the clock.
@@ -34,10 +31,7 @@ fn slot_fits(clock: u64, slot: Option<u64>) -> bool
 fn alarm_fits(clock: u64, alarm: Option<u64>) -> bool
     ensures { result ≡ framed_alarm clock alarm }
 {
-    match alarm {
-        None => true,
-        Some(s) => clock < s,
-    }
+    alarm.is_none_or(|s| clock < s)
 }
 
 // A held visit's age is at most 6, its registers fit with GIE set, its previous address is inside and even.
@@ -45,16 +39,13 @@ fn alarm_fits(clock: u64, alarm: Option<u64>) -> bool
 fn context_fits(layout: Layout, saved: &[u16; 16], context: Option<SavedContext>) -> bool
     ensures { result ≡ framed_context layout saved.now context }
 {
-    match context {
-        None => true,
-        Some(visit) => {
-            visit.age <= 6
-                && registers_fit(saved)
-                && gie_is_set(saved[2])
-                && layout.inside(visit.previous)
-                && is_even(visit.previous)
-        }
-    }
+    context.is_none_or(|visit| {
+        visit.age <= 6
+            && registers_fit(saved)
+            && gie_is_set(saved[2])
+            && layout.inside(visit.previous)
+            && is_even(visit.previous)
+    })
 }
 
 // The state keeps the frame, with its registers and its saved registers lent.
@@ -62,15 +53,11 @@ fn context_fits(layout: Layout, saved: &[u16; 16], context: Option<SavedContext>
 pub fn is_framed(control: Control, registers: &[u16; 16], saved: &[u16; 16], layout: Layout) -> bool
     ensures { (stamps : List ℕ) → result ≡ framed (setting_of layout stamps) (with_registers registers.now saved.now control) }
 {
-    let context = control.context;
-    let time = control.time;
-    let slot = time.slot;
-    let alarm = time.alarm;
     registers_fit(registers)
         && is_even(control.previous)
-        && slot_fits(time.clock, slot)
-        && alarm_fits(time.clock, alarm)
-        && context_fits(layout, saved, context)
+        && slot_fits(control.time.clock, control.time.slot)
+        && alarm_fits(control.time.clock, control.time.alarm)
+        && context_fits(layout, saved, control.context)
 }
 
 // The state keeps the frame.
@@ -78,7 +65,5 @@ pub fn is_framed(control: Control, registers: &[u16; 16], saved: &[u16; 16], lay
 pub fn state_is_framed(m: State, layout: Layout) -> bool
     ensures { (stamps : List ℕ) → result ≡ framed (setting_of layout stamps) m }
 {
-    let registers = m.registers;
-    let saved = m.saved;
-    is_framed(Control::of(m), &registers, &saved, layout)
+    is_framed(Control::of(m), &m.registers, &m.saved, layout)
 }

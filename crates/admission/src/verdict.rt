@@ -2,9 +2,10 @@
 ghost use Rattle.std.specs.Prelude.{◌≡◌, leb};
 ghost use Rattle.base.specs.Limits.{last_clock, most_budget};
 ghost use Rattle.base.specs.Verdict.{verdict};
+ghost use Rattle.layout.specs.Rules.{accepted};
 ghost use Rattle.definition.specs.Setting.{setting_of};
 ghost use Rattle.definition.specs.State.{world};
-ghost use Rattle.definition.specs.Calls.{whole_memory, tests_found, budget_tests, transcript_tests, step_tests, run_tests};
+ghost use Rattle.definition.specs.Calls.{whole_memory, timetable, tests_found, budget_tests, transcript_tests, step_tests, run_tests};
 ghost use Rattle.storage.specs.Control.{with_registers};
 
 use crate::frame::{is_framed, state_is_framed};
@@ -36,7 +37,7 @@ fn budget_allowed(budget: u64) -> bool
     budget <= MOST_BUDGET
 }
 
-// The first of the tests 1 to 6 that fails.
+// The first of the tests 1 to 6 that fails, by what each found.
 #[tactic(auto, unfolding(base::specs::FirstFailure::first_failure, base::specs::Test::all))]
 fn first_refusal(
     whole: bool,
@@ -69,6 +70,27 @@ fn first_refusal(
     Ok(())
 }
 
+// The first test of a call that fails: the tests that every call makes, with what is found of frame, budget and clock.
+fn judge_call(
+    mem: &[u8],
+    layout: Layout,
+    stamps: &[u64],
+    frame: bool,
+    near: bool,
+    early: bool,
+) -> Result<(), Refusal>
+    ensures { result ≡ verdict (tests_found (whole_memory mem.now) (accepted layout) (timetable stamps.now) frame (budget_tests near) early) }
+{
+    first_refusal(
+        memory_is_whole(mem),
+        layout.accepted(),
+        is_timetable(stamps),
+        frame,
+        near,
+        early,
+    )
+}
+
 // The first test of a run that fails.
 pub fn judge_run(
     control: Control,
@@ -81,10 +103,10 @@ pub fn judge_run(
 ) -> Result<(), Refusal>
     ensures { result ≡ verdict (run_tests (setting_of layout stamps.now) budget (world (with_registers registers.now saved.now control) mem.now)) }
 {
-    first_refusal(
-        memory_is_whole(mem),
-        layout.accepted(),
-        is_timetable(stamps),
+    judge_call(
+        mem,
+        layout,
+        stamps,
         is_framed(control, registers, saved, layout),
         budget_allowed(budget),
         clock_allowed(control.time.clock),
@@ -101,10 +123,10 @@ pub fn judge_transcript(
 ) -> Result<(), Refusal>
     ensures { result ≡ verdict (transcript_tests (setting_of layout stamps.now) budget (world m mem.now)) }
 {
-    first_refusal(
-        memory_is_whole(mem),
-        layout.accepted(),
-        is_timetable(stamps),
+    judge_call(
+        mem,
+        layout,
+        stamps,
         state_is_framed(m, layout),
         budget_allowed(budget),
         true,
@@ -112,6 +134,7 @@ pub fn judge_transcript(
 }
 
 // The first test of a step that fails: a step takes no budget, so nothing is found against one.
+#[tactic(auto, using(base::proofs::Tests::choices), unfolding(base::specs::FirstFailure::first_failure))]
 pub fn judge_step(
     control: Control,
     registers: &[u16; 16],
@@ -122,10 +145,10 @@ pub fn judge_step(
 ) -> Result<(), Refusal>
     ensures { result ≡ verdict (step_tests (setting_of layout stamps.now) (world (with_registers registers.now saved.now control) mem.now)) }
 {
-    first_refusal(
-        memory_is_whole(mem),
-        layout.accepted(),
-        is_timetable(stamps),
+    judge_call(
+        mem,
+        layout,
+        stamps,
         is_framed(control, registers, saved, layout),
         true,
         clock_allowed(control.time.clock),

@@ -1,19 +1,15 @@
 -- A machine whose registers are lent: the saved copy by what is held, and what is left of it, apart and joined. Assumes nothing.
-use Rattle.std.proofs.Common.{◌≡◌, ℕ, ◌≤◌, Bool, true, false, true≢false, List, get_or, refl, sym, ◌∙◌, ap, subst, arith, ne_eqb, Option, None, Some}
-use Rattle.base.proofs.Tests.{when_false}
+use Rattle.std.proofs.Common.{◌≡◌, ℕ, ◌≤◌, Bool, List, get_or, sym, ◌∙◌, ap, subst, arith, ne_eqb}
 use Rattle.std.proofs.lemmas.Bool.{not-true}
+use Rattle.base.proofs.Tests.{when_false}
 use Rattle.definition.specs.Setting.{Setting}
-use Rattle.definition.specs.declared.state.SavedContext.{SavedContext}
 use Rattle.definition.specs.declared.state.State.{State}
-use Rattle.definition.specs.Registers.{zeros}
 use Rattle.definition.specs.State.{World, world, is_held}
 use Rattle.definition.specs.Interrupt.{gives}
 use Rattle.definition.specs.Step.{saved_for, step}
 use Rattle.definition.specs.Run.{step_of}
 use Rattle.storage.specs.declared.control.Control.{Control}
 use Rattle.storage.specs.Control.{with_registers}
-use Rattle.clock.specs.declared.time.Requests.{Requests}
-use Rattle.clock.specs.Requests.{CanPass}
 use Rattle.answers.specs.declared.answer.Outcome.{Outcome}
 use Rattle.storage.specs.declared.answered.Answered.{Answered}
 use Rattle.fast.specs.declared.steps.FastProgress.{FastProgress}
@@ -22,14 +18,6 @@ use Rattle.fast.proofs.FastSteps.{fast_steps_ran}
 use Rattle.interrupt.proofs.Yields.{Yields}
 use Rattle.inplace.specs.internal.InPlace.{control_after, FastUntil, FastRanSteps}
 use Rattle.inplace.proofs.RanLaws.{ran_none}
-
-pub saved_held : (v : Option SavedContext) (saved : List ℕ) → is_held v ≡ true → saved_for v saved ≡ saved
-saved_held None saved e = absurd (true≢false (sym e))
-saved_held (Some _) saved e = refl
-
-pub saved_unheld : (v : Option SavedContext) (saved : List ℕ) → is_held v ≡ false → saved_for v saved ≡ zeros
-saved_unheld None saved e = refl
-saved_unheld (Some _) saved e = absurd (true≢false e)
 
 module _ (S : Setting) where
   -- fast steps up to such a clock value are steps that only ran
@@ -65,7 +53,3 @@ module _ (S : Setting) where
       ∙ ap (λ (z : Answered State Outcome). gives z.machine bytes z.answer) h.0
       ∙ ap (λ (z : List ℕ). gives (step S m mem).state z (step S m mem).outcome) h.1
       ∙ ap (λ (z : State). step S z mem) e
-
--- cycles can pass from the same clock value
-pub can_pass_at : {r : Requests} {a b n : ℕ} → a ≡ b → CanPass r b n → CanPass r a n
-can_pass_at {r} {n = n} e h = subst (λ (z : ℕ). CanPass r z n) (sym e) h

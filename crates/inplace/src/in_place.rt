@@ -25,18 +25,14 @@ use storage::registers::zero_registers;
 pub fn after_fast(control: Control, progress: FastProgress, saved: &mut [u16; 16]) -> Control
     ensures { (result ≡ control_after control progress) × (saved.new ≡ saved_for control.context saved.old) }
 {
-    let time = control.time;
-    let context = control.context;
-    let later = Time {
-        clock: progress.clock,
-        ..time
-    };
-    clear_unheld(context, saved);
+    clear_unheld(control.context, saved);
     Control {
         previous: progress.previous,
-        time: later,
-        context,
-        halted: control.halted,
+        time: Time {
+            clock: progress.clock,
+            ..control.time
+        },
+        ..control
     }
 }
 
@@ -44,16 +40,16 @@ pub fn after_fast(control: Control, progress: FastProgress, saved: &mut [u16; 16
 fn clear_unheld(context: Option<SavedContext>, saved: &mut [u16; 16])
     ensures { saved.new ≡ saved_for context saved.old }
 {
-    if is_held(context) {
-        return;
+    if !is_held(context) {
+        *saved = zero_registers();
     }
-    *saved = zero_registers();
 }
 
 // The registers of a state back where they are lent, and what is beside them.
 pub fn put_back(next: State, registers: &mut [u16; 16], saved: &mut [u16; 16]) -> Control
     ensures { with_registers registers.new saved.new result ≡ next }
 {
+    // Through two locals: of a field that is copied to what is lent the check finds no proof.
     let file = next.registers;
     let held = next.saved;
     *registers = file;
@@ -65,11 +61,10 @@ pub fn put_back(next: State, registers: &mut [u16; 16], saved: &mut [u16; 16]) -
 pub fn fast_until(control: Control, status: u16, requests: Requests<'_>) -> u64
     ensures { (L : LAYOUT) → AtClock requests.entry control.time.clock → FastUntil (setting_with L requests.entry) status control result }
 {
-    let time = control.time;
-    requests.no_event_until(control.halted, !gie_is_set(status), time)
+    requests.no_event_until(control.halted, !gie_is_set(status), control.time)
 }
 
-// One step by itself, fast if it can be.
+// One step by itself, fast if it can be. A transcript's line and the loop of a run have its parts once more (docs/DECISIONS.md, *The loop over step*).
 pub fn one_step(
     control: Control,
     registers: &mut [u16; 16],
@@ -80,14 +75,12 @@ pub fn one_step(
 ) -> Answered<Control, Outcome>
     ensures { control.time.clock ≤ last_clock → AtClock requests.entry control.time.clock → gives (with_registers registers.new saved.new result.machine) mem.new result.answer ≡ step_of (setting_with layout requests.entry) (world (with_registers registers.old saved.old control) mem.old) }
 {
-    let context = control.context;
-    let clock = control.time.clock;
     let until = fast_until(control, registers[2], requests);
     let burst = fast_steps(
         registers,
         control.previous,
-        clock,
-        is_held(context),
+        control.time.clock,
+        is_held(control.context),
         mem,
         layout,
         until,
@@ -101,10 +94,8 @@ pub fn one_step(
     }
     let m = control.state(*registers, *saved);
     let done = take_step(m, mem, layout, requests);
-    let next = done.machine;
-    let outcome = done.answer;
     Answered {
-        machine: put_back(next, registers, saved),
-        answer: outcome,
+        machine: put_back(done.machine, registers, saved),
+        answer: done.answer,
     }
 }

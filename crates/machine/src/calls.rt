@@ -1,4 +1,6 @@
 // What callers can do: start, step, run. Whatever they hand in, they get the definition's answer or one numbered refusal.
+// Layout and stamps are handed in apart: behind the tests the stamps go on as a `Timetable` and the layout as it is, so a struct of the two would be
+// taken apart at once.
 ghost use Rattle.definition.specs.Setting.{setting_of};
 ghost use Rattle.definition.specs.State.{world};
 ghost use Rattle.definition.specs.Promises.{StartPromise, StepPromise, RunPromise};
@@ -22,8 +24,11 @@ use storage::registers::cleared_registers;
 #[derive(Clone, Copy)]
 pub struct Machine(pub State);
 
+// Step and run, and a transcript's page, take a state apart around one call each. A function that takes the call as a closure was tried: the
+// closure captures the memory, and its caller then learns no byte of what the memory became.
 impl Machine {
     // The start state of a memory. Where it is refused, the machine beside the answer is that of an empty memory.
+    #[tactic(auto, using(crate::proofs::AnswerLaws::start_taken))]
     pub fn start(mem: &[u8]) -> Answered<Machine, Result<(), Refusal>>
         ensures { StartPromise mem.now result.machine.0 result.answer }
     {
@@ -48,22 +53,19 @@ impl Machine {
     ) -> Answered<Machine, Result<Outcome, Refusal>>
         ensures { StepPromise (setting_of layout stamps.now) (world self.0 mem.old) (world result.machine.0 mem.new) result.answer }
     {
-        let state = self.0;
-        let mut registers = state.registers;
-        let mut saved = state.saved;
-        let done = step_in_place(
-            Control::of(state),
+        let mut registers = self.0.registers;
+        let mut saved = self.0.saved;
+        let stepped = step_in_place(
+            Control::of(self.0),
             &mut registers,
             &mut saved,
             mem,
             layout,
             stamps,
         );
-        let control = done.machine;
-        let answer = done.answer;
         Answered {
-            machine: Machine(control.state(registers, saved)),
-            answer,
+            machine: Machine(stepped.machine.state(registers, saved)),
+            answer: stepped.answer,
         }
     }
 
@@ -77,11 +79,10 @@ impl Machine {
     ) -> Answered<Machine, Result<Stopped, Refusal>>
         ensures { RunPromise (setting_of layout stamps.now) budget (world self.0 mem.old) (world result.machine.0 mem.new) result.answer }
     {
-        let state = self.0;
-        let mut registers = state.registers;
-        let mut saved = state.saved;
-        let done = run_in_place(
-            Control::of(state),
+        let mut registers = self.0.registers;
+        let mut saved = self.0.saved;
+        let ran = run_in_place(
+            Control::of(self.0),
             &mut registers,
             &mut saved,
             mem,
@@ -89,16 +90,15 @@ impl Machine {
             stamps,
             budget,
         );
-        let last = done.machine;
-        let answer = done.answer;
         Answered {
-            machine: Machine(last.state(registers, saved)),
-            answer,
+            machine: Machine(ran.machine.state(registers, saved)),
+            answer: ran.answer,
         }
     }
 }
 
 // One step of a state whose registers are lent: they are changed where they lie.
+#[tactic(auto, using(crate::proofs::AnswerLaws::step_refused, base::proofs::Tests::choices), unfolding(base::specs::FirstFailure::first_failure))]
 pub fn step_in_place(
     control: Control,
     registers: &mut [u16; 16],
@@ -118,17 +118,16 @@ pub fn step_in_place(
             let timetable = Timetable { stamps };
             let requests = timetable.requests_at(control.time.clock);
             let moved = one_step(control, registers, saved, mem, layout, requests);
-            let next = moved.machine;
-            let outcome = moved.answer;
             Answered {
-                machine: next,
-                answer: Ok(outcome),
+                machine: moved.machine,
+                answer: Ok(moved.answer),
             }
         }
     }
 }
 
 // A run of a state whose registers are lent: they are changed where they lie.
+#[tactic(auto, using(crate::proofs::AnswerLaws::run_refused, base::proofs::Tests::choices), unfolding(base::specs::FirstFailure::first_failure))]
 pub fn run_in_place(
     control: Control,
     registers: &mut [u16; 16],

@@ -17,8 +17,8 @@ use step::step::{is_held, take_step};
 use storage::answered::Answered;
 use storage::control::Control;
 
-// The steps of a run, counted. Where there is a burst of fast steps it is taken, else one step; the index of the upcoming stamp goes along
-// with the clock, and the registers stay where they lie.
+// The steps of a run, counted. Where there is a burst of fast steps it is taken, else one step, both as in `one_step` (docs/DECISIONS.md, *The loop
+// over step*); the index of the upcoming stamp goes along with the clock, and the registers stay where they lie.
 pub fn run_steps(
     control: Control,
     registers: &mut [u16; 16],
@@ -44,13 +44,12 @@ pub fn run_steps(
         if steps == budget {
             break End::Spent;
         }
-        let context = current.context;
         let until = fast_until(current, registers[2], requests);
         let burst = fast_steps(
             registers,
             current.previous,
             current.time.clock,
-            is_held(context),
+            is_held(current.context),
             mem,
             layout,
             until,
@@ -64,8 +63,7 @@ pub fn run_steps(
         }
         let m = current.state(*registers, *saved);
         let done = take_step(m, mem, layout, requests);
-        let next = done.machine;
-        current = put_back(next, registers, saved);
+        current = put_back(done.machine, registers, saved);
         requests = requests.at(current.time.clock);
         steps += 1;
     };

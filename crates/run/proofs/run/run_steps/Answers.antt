@@ -1,17 +1,11 @@
-use Rattle.std.proofs.Common.{◌∙◌, ◌-◌, sym, ap, arith, Ok}
-use Rattle.answers.specs.Outcome.{stopped}
-use Rattle.definition.specs.Setting.{setting_of}
-use Rattle.definition.specs.declared.state.State.{State}
+use Rattle.std.proofs.Common.{◌∙◌, ◌-◌, ap, arith}
 use Rattle.answers.specs.declared.answer.End.TheVariants.{Halted, Clock}
-use Rattle.definition.specs.State.{World, world}
-use Rattle.definition.specs.Run.{Stop, world_after, step_of, run}
-use Rattle.definition.specs.Calls.{called}
-use Rattle.storage.specs.Control.{with_registers}
-use Rattle.clock.specs.declared.timetable.Timetable.{Timetable}
+use Rattle.definition.specs.State.{World}
+use Rattle.definition.specs.Run.{world_after, step_of}
 use Rattle.clock.specs.Requests.{setting_with}
 use Rattle.run.proofs.LoopLaws.{ending_halted, ending_clock, loop_first, loop_can_pass, loop_passed, loop_next, loop_stops, loop_spent}
 use Rattle.run.proofs.FastRun.{loop_step_fast, loop_step_full}
-use Rattle.inplace.proofs.InPlaceLaws.{fast_ran, burst_none, burst_some, full_gives, can_pass_at}
+use Rattle.inplace.proofs.InPlaceLaws.{fast_ran, burst_none, burst_some, full_gives}
 use Rattle.run.proofs.run.run_steps.Goals as goal
 
 pub loop-current-init : goal.loop-current-init
@@ -19,48 +13,17 @@ loop-current-init c =
     let found = c.requests_at-requests.ensures in
     (loop_first _ _ _ _ found.upcoming, found.timetable)
 
-pub overflow_sub-budget : goal.overflow_sub-budget
-overflow_sub-budget c = let i = c.loop-current.invariant.0.within in omega arith
-
-pub overflow_add-steps : goal.overflow_add-steps
-overflow_add-steps c =
-    let i = c.loop-current.invariant.0.within in
-    let j = c.fast_steps-burst.ensures.within in
-    let k = c.ranges.budget.fits in
-    omega arith
-
-pub loop-current-smaller-then-burst-gt0 : goal.loop-current-smaller-then-burst-gt0
-loop-current-smaller-then-burst-gt0 c =
-    let i = c.loop-current.invariant.0.within in
-    let j = c.fast_steps-burst.ensures.within in
-    let k = c.if-burst-gt0.true in
-    omega arith
-
 pub loop-current-preserved-then-burst-gt0 : goal.loop-current-preserved-then-burst-gt0
 loop-current-preserved-then-burst-gt0 c =
     let l = c.loop-current in
-    let S = setting_with c.args.layout l.requests in
     let b = c.fast_steps-burst in
     let some = c.if-burst-gt0.true in
     let t = l.invariant.0 in
-    let q = fast_ran S _ _ _ _ l.current _ _ b.result (c.fast_until-until.ensures c.args.layout t.here) c.is_held.ensures b.ensures.ran in
-    let led = burst_some S l.current _ _ b.result _ _ q some l.saved _ c.after_fast-current.ensures.1 _ c.after_fast-current.ensures.0 in
-    let u = loop_step_fast S _ _ _ _ led some b.ensures.within in
+    let q = fast_ran _ _ _ _ _ l.current _ _ b.result (c.fast_until-until.ensures c.args.layout t.here) c.is_held.ensures b.ensures.ran in
+    let led = burst_some _ _ _ _ b.result _ _ q some _ _ c.after_fast-current.ensures.1 _ c.after_fast-current.ensures.0 in
+    let u = loop_step_fast _ _ _ _ _ led some b.ensures.within in
     let later = c.at-requests.ensures in
     (loop_next _ _ _ _ _ _ t _ _ u c.mem-1.given _ later.timetable (later.upcoming (loop_passed _ _ _ _ _ _ t _ u.rises)), later.timetable ∙ l.invariant.1)
-
-pub overflow_add-steps-in-loop-current : goal.overflow_add-steps-in-loop-current
-overflow_add-steps-in-loop-current c =
-    let i = c.loop-current.invariant.0.within in
-    let n = c.if-steps-budget.false in
-    let k = c.ranges.budget.fits in
-    omega arith
-
-pub loop-current-smaller : goal.loop-current-smaller
-loop-current-smaller c =
-    let i = c.loop-current.invariant.0.within in
-    let n = c.if-steps-budget.false in
-    omega arith
 
 pub loop-current-preserved : goal.loop-current-preserved
 loop-current-preserved c =
@@ -74,10 +37,10 @@ loop-current-preserved c =
     let b = c.fast_steps-burst in
     let early = c.if-current-gt-LAST_CLOCK.false in
     let held = c.state-m.ensures in
-    let q = fast_ran S _ _ _ _ l.current _ _ b.result (c.fast_until-until.ensures p.layout t.here) c.is_held.ensures b.ensures.ran in
-    let z = burst_none S l.current _ _ b.result _ _ q (omega arith) l.saved in
-    let g = full_gives S _ _ _ _ _ _ _ _ _ _ held
-    (c.take_step-done.ensures (can_pass_at (ap (λ (x : State). x.time.clock) held) (loop_can_pass _ _ _ _ _ _ t early)))
+    let q = fast_ran _ _ _ _ _ l.current _ _ b.result (c.fast_until-until.ensures p.layout t.here) c.is_held.ensures b.ensures.ran in
+    let z = burst_none _ _ _ _ b.result _ _ q (omega arith) l.saved in
+    let g = full_gives _ _ _ _ _ _ _ _ _ _ _ held
+    (c.take_step-done.ensures (rw held (loop_can_pass _ _ _ _ _ _ t early)))
     c.put_back-current.ensures in
     let u = loop_step_full S (p.budget - l.steps) _ _ c.if-current.false early (omega arith)
     (ap world_after g ∙ ap (λ (v : World). world_after (step_of S v)) z) in
@@ -87,35 +50,17 @@ loop-current-preserved c =
       later.timetable ∙ l.invariant.1,
     )
 
-pub shape_of-mem-then-current : goal.shape_of-mem-then-current
-shape_of-mem-then-current c = c.loop-current.invariant.0.size
-
 pub returns-then-current : goal.returns-then-current
 returns-then-current c =
-    let l = c.loop-current in
-    let a = c.args in
-    let from = world (with_registers a.registers.now a.saved.now a.control) a.mem.now in
-    let o = loop_stops _ _ _ _ _ _ l.invariant.0 Halted (ending_halted _ c.if-current.true) in
-    sym (ap (λ (s : Stop). called s.state s.memory (Ok (stopped s.end s.steps))) (ap (λ (z : Timetable). run (setting_of a.layout z.stamps.now) a.budget from) (sym l.invariant.1) ∙ o))
-
-pub shape_of-mem-then-current-gt-LAST_CLOCK : goal.shape_of-mem-then-current-gt-LAST_CLOCK
-shape_of-mem-then-current-gt-LAST_CLOCK c = c.loop-current.invariant.0.size
+    let t = c.loop-current.invariant in
+    rw (← t.1, loop_stops _ _ _ _ _ _ t.0 Halted (ending_halted _ c.if-current.true))
 
 pub returns-then-current-gt-LAST_CLOCK : goal.returns-then-current-gt-LAST_CLOCK
 returns-then-current-gt-LAST_CLOCK c =
-    let l = c.loop-current in
-    let a = c.args in
-    let from = world (with_registers a.registers.now a.saved.now a.control) a.mem.now in
-    let o = loop_stops _ _ _ _ _ _ l.invariant.0 Clock (ending_clock _ c.if-current.false c.if-current-gt-LAST_CLOCK.true) in
-    sym (ap (λ (s : Stop). called s.state s.memory (Ok (stopped s.end s.steps))) (ap (λ (z : Timetable). run (setting_of a.layout z.stamps.now) a.budget from) (sym l.invariant.1) ∙ o))
-
-pub shape_of-mem-then-steps-budget : goal.shape_of-mem-then-steps-budget
-shape_of-mem-then-steps-budget c = c.loop-current.invariant.0.size
+    let t = c.loop-current.invariant in
+    rw (← t.1, loop_stops _ _ _ _ _ _ t.0 Clock (ending_clock _ c.if-current.false c.if-current-gt-LAST_CLOCK.true))
 
 pub returns-then-steps-budget : goal.returns-then-steps-budget
 returns-then-steps-budget c =
-    let l = c.loop-current in
-    let a = c.args in
-    let from = world (with_registers a.registers.now a.saved.now a.control) a.mem.now in
-    let o = loop_spent _ _ _ _ _ _ l.invariant.0 c.if-steps-budget.true c.if-current.false c.if-current-gt-LAST_CLOCK.false in
-    sym (ap (λ (s : Stop). called s.state s.memory (Ok (stopped s.end s.steps))) (ap (λ (z : Timetable). run (setting_of a.layout z.stamps.now) a.budget from) (sym l.invariant.1) ∙ o))
+    let t = c.loop-current.invariant in
+    rw (← t.1, loop_spent _ _ _ _ _ _ t.0 c.if-steps-budget.true c.if-current.false c.if-current-gt-LAST_CLOCK.false)

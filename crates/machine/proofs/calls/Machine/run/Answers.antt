@@ -1,6 +1,4 @@
-use Rattle.machine.proofs.AnswerLaws.{run_with_registers}
 use Rattle.machine.proofs.calls.Machine.run.Goals as goal
 
 pub returns : goal.returns
-returns c =
-    run_with_registers _ _ _ _ _ _ _ _ _ c.of.ensures c.state.ensures _ _ c.run_in_place-done.ensures
+returns c = rw c.state.ensures (rw c.of.ensures at c.run_in_place-ran.ensures)

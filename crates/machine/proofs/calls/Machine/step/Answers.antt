@@ -1,6 +1,4 @@
-use Rattle.machine.proofs.AnswerLaws.{step_with_registers}
 use Rattle.machine.proofs.calls.Machine.step.Goals as goal
 
 pub returns : goal.returns
-returns c =
-    step_with_registers _ _ _ _ _ _ _ _ _ c.of.ensures c.state.ensures _ c.step_in_place-done.ensures
+returns c = rw c.state.ensures (rw c.of.ensures at c.step_in_place-stepped.ensures)
