@@ -1,4 +1,5 @@
-// The parts of a reason, put one behind another. What of a reason would lie past index 240 is left out.
+// The parts of a reason, put one behind another. What of a reason would lie past index 240 is left out. That a line ends there at the latest is asked
+// of each call, and in no struct around the line: `Wrote` says it of each line that is left, beside what else it says.
 ghost use Rattle.std.specs.Prelude.{◌≤◌, length};
 ghost use Rattle.explain.specs.internal.Reason.{reason_end, Wrote};
 
@@ -24,6 +25,7 @@ fn put_part(line: &mut Line, part: &[u8])
 }
 
 // Puts the parts of a reason.
+#[tactic(auto, using(crate::proofs::SentenceLaws::wrote_then))]
 pub(crate) fn put_parts(line: &mut Line, parts: &[&[u8]])
     requires { line.old.filled ≤ reason_end }
     ensures { Wrote line.old line.new }

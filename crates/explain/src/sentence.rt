@@ -5,7 +5,7 @@ ghost use Rattle.explain.specs.internal.Reason.{reason_end};
 ghost use Rattle.transcript.specs.Put.{Puts};
 
 use crate::reason::put_reason;
-use base::refusal::Refusal;
+use base::refusal::{Refusal, SheetRefusal};
 use reasons::finding::reason_of;
 use transcript::line::Line;
 
@@ -13,6 +13,7 @@ use transcript::line::Line;
 const WHOLE_SHEET: u64 = 0;
 
 // Puts the line's number, where it has one.
+#[tactic(auto, using(base::proofs::Tests::choices, transcript::proofs::TranscriptLaws::puts_none), unfolding(crate::specs::Sentence::line_label))]
 fn put_line(text: &mut Line, line: u64)
     requires { text.old.filled ≤ reason_end }
     ensures { Puts text.old text.new (line_label line) }
@@ -25,7 +26,7 @@ fn put_line(text: &mut Line, line: u64)
     text.put(b": ");
 }
 
-// A refusal's number and word, and the newline.
+// A refusal's number and word, and the newline. Bytes and no `Display`: they are put into a line like its other parts.
 #[tactic(auto, using(crate::proofs::SentenceLaws::label_spelled))]
 fn label_of(refusal: Refusal) -> &'static [u8]
     ensures label { result.now ≡ refusal_label refusal }
@@ -44,14 +45,15 @@ fn label_of(refusal: Refusal) -> &'static [u8]
     }
 }
 
-// Writes the sentence for a refusal and its line to the front of a lent buffer, as far as it goes, and answers its length.
-pub fn explanation(out: &mut [u8], sheet: &[u8], refusal: Refusal, line: u64) -> usize
+// Writes the sentence for a sheet's refusal to the front of a lent buffer, as far as it goes, and answers its length, which may be more than the buffer's.
+#[tactic(auto, using(crate::proofs::SentenceLaws::length_line_label))]
+pub fn explanation(out: &mut [u8], sheet: &[u8], refused: SheetRefusal) -> usize
     ensures bounded { result ≤ 256 }
-    ensures sentence { Explains refusal line out.old out.new result }
+    ensures sentence { Explains refused.refusal refused.line out.old out.new result }
 {
     let mut text = Line::new(out);
-    put_line(&mut text, line);
-    put_reason(&mut text, sheet, reason_of(sheet, refusal, line));
-    text.put(label_of(refusal));
+    put_line(&mut text, refused.line);
+    put_reason(&mut text, sheet, reason_of(sheet, refused));
+    text.put(label_of(refused.refusal));
     text.len()
 }

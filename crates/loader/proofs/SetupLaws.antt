@@ -1,6 +1,6 @@
 -- The lines of a sheet, one at a time: what stands before the first newline is the first line; and what they set up. Assumes nothing.
-use Rattle.std.proofs.Common.{ℕ, suc, ◌+◌, ◌%◌, ◌≤◌, ◌<◌, ◌≡◌, ◌∙◌, refl, ap, sym, Bool, false, List, [], ◌∷◌, ◌++◌, Option, None, Some, option_to_list, eqb, length, get_or, set, drop, drop-cons, add-one, arith}
-use Rattle.std.proofs.Math.ListN.{replicate, length-set, length-replicate, drop_of_length-le}
+use Rattle.std.proofs.Common.{ℕ, ◌+◌, ◌≤◌, ◌<◌, ◌≡◌, refl, Bool, false, List, [], ◌∷◌, ◌++◌, Option, None, option_to_list, eqb, length, get_or, drop, drop-cons, add-one, arith}
+use Rattle.std.proofs.Math.ListN.{length-set, length-replicate, drop_of_length-le}
 use Rattle.std.proofs.lemmas.List.Splits.{slice_split_first}
 use Rattle.std.specs.Fn.{CalledAt}
 use Rattle.std.specs.declared.slice.Split.{Split}
@@ -11,11 +11,9 @@ use denote.Param.Members.{Mut}
 use denote.Ref.{Bor}
 use Rattle.base.specs.Limits.{memory_bytes}
 use Rattle.base.specs.Test.{when◌then◌else◌}
-use Rattle.base.specs.Word.{drop_bit0}
-use Rattle.base.proofs.Tests.{cases, when_true, when_false}
+use Rattle.base.proofs.Tests.{choices}
 use Rattle.definition.specs.Memory.{put_word}
 use Rattle.lines.specs.declared.line.Content.{Content}
-use Rattle.lines.specs.declared.line.Content.TheVariants.{Layout as Layouts, Word, Stamp, Budget}
 use Rattle.text.specs.Text.{newline, find, head, rest}
 use Rattle.text.proofs.Finding.{find_is}
 use Rattle.lines.specs.Line.{parse_line}
@@ -33,12 +31,7 @@ pieces_here s h =
 pub pieces_last : (s : List ℕ) → length s ≤ find s newline → pieces s ≡ s ∷ []
 unfolding pieces find
 pieces_last [] h = refl
-pieces_last (x ∷ xs) h =
-    cases (eqb x newline) (λ e. let f = when_true (eqb x newline) 0 (suc (find xs newline)) e in absurd (omega arith))
-    (λ e.
-    let f = when_false (eqb x newline) 0 (suc (find xs newline)) e in
-    let g : length xs ≤ find xs newline = omega arith in
-    rw (e, pieces_last xs g))
+pieces_last (x ∷ xs) h = grind (arith, choices, pieces_last xs)
 
 -- what `split` gives at the newlines
 pub pieces_given : {F : Type 0} {s : Split ℕ F} (g : Mut F (Bor ℕ × Unit {0}) Bool) {f : F} (xs : List ℕ) → split_rest s ≡ xs → split_done s ≡ false → split_callee s ≡ f
@@ -53,18 +46,22 @@ empty_line = refl
 
 -- ---- the setup, a line at a time
 
+-- what a line says stands before the further stamps
+stamp_before : (line : Option Content) (ss : List ℕ) → stamp_of line ss ≡ stamp_of line [] ++ ss
+stamp_before line ss = grind arith
+
 -- the i-th piece, with what stands before it left behind
 module _ (ps : List (List ℕ)) (i : ℕ) (p : List ℕ) (h : (i < length ps) × (p ≡ get_or ps i p)) (n : ℕ) (next : n ≡ i + 1) where
   piece_next : drop i ps ≡ p ∷ drop n ps
-  piece_next = rw (next, add-one, drop-cons ps i p h.0) (ap (λ (q : List ℕ). q ∷ drop (suc i) ps) (sym h.1))
+  piece_next = rw (next, add-one, drop-cons ps i p h.0) (cc)
 
   pub memory_next : (mem mem_then : List ℕ) → mem_then ≡ line_stored (parse_line p) mem → memory_from mem (drop i ps) ≡ memory_from mem_then (drop n ps)
   unfolding memory_from
-  memory_next mem mem_then e = rw e (ap (memory_from mem) piece_next)
+  memory_next mem mem_then e = rw (e, piece_next)
 
-  pub stamps_next : stamps_from (drop i ps) ≡ stamp_of (parse_line p) (stamps_from (drop n ps))
+  pub stamps_next : (said : Option ℕ) → option_to_list said ≡ stamp_of (parse_line p) [] → stamps_from (drop i ps) ≡ option_to_list said ++ stamps_from (drop n ps)
   unfolding stamps_from
-  stamps_next = ap stamps_from piece_next
+  stamps_next said e = rw (piece_next, e) (stamp_before (parse_line p) _)
 
 -- no piece is left
 pub memory_end : (ps : List (List ℕ)) (i : ℕ) (mem : List ℕ) → length ps ≤ i → memory_from mem (drop i ps) ≡ mem
@@ -75,31 +72,16 @@ pub stamps_end : (ps : List (List ℕ)) (i : ℕ) → length ps ≤ i → stamps
 unfolding stamps_from
 stamps_end ps i h = rw (drop_of_length-le ps h)
 
--- what a line says stands before the further stamps
-stamp_before : (line : Option Content) (ss : List ℕ) → stamp_of line ss ≡ stamp_of line [] ++ ss
-stamp_before None ss = refl
-stamp_before (Some (Layouts L)) ss = refl
-stamp_before (Some (Word a w)) ss = refl
-stamp_before (Some (Stamp s)) ss = refl
-stamp_before (Some (Budget b)) ss = refl
-
-pub stamp_first : (line : Option Content) (ss : List ℕ) (said : Option ℕ) → option_to_list said ≡ stamp_of line [] → stamp_of line ss ≡ option_to_list said ++ ss
-stamp_first line ss said e = rw e (stamp_before line ss)
-
 -- lines keep memory's length
 stored_length : (line : Option Content) (mem : List ℕ) → length (line_stored line mem) ≡ length mem
 unfolding put_word
-stored_length None mem = refl
-stored_length (Some (Layouts L)) mem = refl
-stored_length (Some (Word a w)) mem = length-set (set mem (drop_bit0 a) (w % 256)) _ _ ∙ length-set mem _ _
-stored_length (Some (Stamp s)) mem = refl
-stored_length (Some (Budget b)) mem = refl
+stored_length line mem = grind (arith, length-set {A = ℕ})
 
 memory_length : (ps : List (List ℕ)) (mem : List ℕ) → length (memory_from mem ps) ≡ length mem
 unfolding memory_from
 memory_length [] mem = refl
-memory_length (p ∷ ps) mem = memory_length ps (line_stored (parse_line p) mem) ∙ stored_length (parse_line p) mem
+memory_length (p ∷ ps) mem = simp (memory_length ps, stored_length)
 
 pub sheet_memory_length : (s : List ℕ) → length (sheet_memory s) ≡ memory_bytes
 unfolding sheet_memory
-sheet_memory_length s = memory_length (pieces s) (replicate memory_bytes 0) ∙ length-replicate {A = ℕ} memory_bytes 0
+sheet_memory_length s = simp (memory_length, length-replicate)

@@ -29,6 +29,7 @@ fn store_lines(mem: &mut [u8; MEMORY_BYTES], sheet: &[u8])
 }
 
 // The sheet's memory: the words of the M lines, and 0 elsewhere.
+#[tactic(auto, using(crate::proofs::SetupLaws::sheet_memory_length), unfolding(crate::specs::Setup::sheet_memory))]
 pub fn load_memory(mem: &mut [u8; MEMORY_BYTES], sheet: &[u8])
     ensures loaded { mem.new ≡ sheet_memory sheet.now }
     ensures size { memory_bytes ≡ length mem.new }
@@ -48,9 +49,11 @@ fn stamp_of(line: &[u8]) -> Option<u64>
 }
 
 // The sheet's timetable: the stamps of the A lines in order, at the front of what is lent, as far as it goes.
+#[tactic(auto, unfolding(crate::specs::Setup::sheet_stamps))]
 pub fn load_stamps(stamps: &mut [u64], sheet: &[u8])
     ensures { stamps.new ≡ sets stamps.old 0 (sheet_stamps sheet.now) }
 {
+    // By the index: after `iter_mut` a proof knows no item.
     let mut count = 0;
     for line in sheet.split(|b| *b == b'\n') {
         if let Some(stamp) = stamp_of(line) {

@@ -1,21 +1,19 @@
 -- An opened sheet, refused and read. Assumes nothing.
-use Rattle.std.proofs.Common.{ℕ, ◌+◌, ◌-◌, ◌≤◌, ◌≡◌, ◌∙◌, refl, sym, ap, true, List, ◌++◌, Result, Ok, Err, length, take, drop, arith}
+use Rattle.std.proofs.Common.{ℕ, ◌+◌, ◌-◌, ◌≤◌, ◌≡◌, ◌∙◌, refl, sym, ap, subst, true, List, ◌++◌, Ok, Err, length, take, drop, arith}
 use Rattle.std.proofs.lemmas.List.Edits.{sets}
 use Rattle.std.proofs.Math.Seq.{sets-eq, length-sets, take_at}
 use Rattle.std.proofs.Common.{eq-eqb, leb-true, le-leb}
-use Rattle.base.specs.declared.refusal.Refusal.{Refusal}
 use Rattle.base.specs.Limits.{memory_bytes, most_stamps}
-use Rattle.base.proofs.Tests.{each, when_true}
+use Rattle.base.proofs.Tests.{each}
 use Rattle.layout.specs.declared.sections.Layout.{Layout}
 use Rattle.definition.specs.Setting.{setting_of}
 use Rattle.definition.specs.declared.state.State.{State}
 use Rattle.definition.specs.State.{world, start}
 use Rattle.base.specs.Verdict.{verdict}
-use Rattle.definition.specs.Calls.{timetable, transcript_tests, whole_memory, Called, called, start_answered, start_call}
-use Rattle.base.specs.FirstFailure.{first_failure}
+use Rattle.definition.specs.Calls.{timetable, transcript_tests, whole_memory}
 use Rattle.definition.proofs.frame.FrameLaws.{ready_at_start}
 use Rattle.sheet.specs.declared.reader.Setup.{Setup}
-use Rattle.sheet.specs.declared.reader.SheetRefusal.{SheetRefusal}
+use Rattle.base.specs.declared.refusal.SheetRefusal.{SheetRefusal}
 use Rattle.loader.specs.Setup.{sheet_memory, sheet_stamps}
 use Rattle.sheet.specs.Sheet.{sheet_answer}
 use Rattle.sheet.specs.Laws.{ReadIsRunnable}
@@ -33,22 +31,19 @@ use Rattle.output.proofs.PagesLaws.{tests_together}
 abbrev pub before : State → ℕ → Transcript
 before m budget = record { state = m; steps = 0; budget = budget; remaining = Header }
 
--- the start state, where memory is whole
-pub started : (mem : List ℕ) (m : State) (answer : Result (Unit {0}) Refusal) → called m mem answer ≡ start_call mem → whole_memory mem ≡ true → m ≡ start mem
-unfolding start_call first_failure
-started mem m answer e h =
-    ap (λ (c : Called (Result (Unit {0}) Refusal)). c.state) e ∙ ap (λ (v : Result (Unit {0}) Refusal). (start_answered mem v).state) (when_true _ _ _ h)
-
 module _ (sheet mem stamps : List ℕ) where
-  pub opened_refused : (r : SheetRefusal) → Err r ≡ sheet_answer sheet → length mem ≡ memory_bytes → (L : Layout) → L ≡ no_layout → (m : State) → m ≡ start mem
-      → OpenPromise sheet mem stamps
-      (record { layout = L; count = 0; transcript = record { state = m; steps = 0; budget = 0; remaining = RefusalLine r.refusal r.line } }) mem stamps
+  pub opened_refused : (r : SheetRefusal) → Err r ≡ sheet_answer sheet → length mem ≡ memory_bytes → (L : Layout) → L ≡ no_layout → (T : Transcript)
+      → (T ≡ record { state = T.state; steps = 0; budget = 0; remaining = RefusalLine r }) × (whole_memory mem ≡ true → T.state ≡ start mem)
+      → OpenPromise sheet mem stamps (record { layout = L; count = 0; transcript = T }) mem stamps
   unfolding sheet_output
-  opened_refused r e l L p m q =
-      record {
+  opened_refused r e l L p T u =
+      let m = T.state in
+      let q = u.1 (eq-eqb _ _ l) in
+      subst (λ (z : Transcript). OpenPromise sheet mem stamps (record { layout = L; count = 0; transcript = z }) mem stamps) (sym u.0)
+      (record {
         result =
-            ap (λ (z : Layout). record { layout = z; count = 0; transcript = record { state = m; steps = 0; budget = 0; remaining = RefusalLine r.refusal r.line } }) p
-            ∙ ap (λ (z : State). record { layout = no_layout; count = 0; transcript = record { state = z; steps = 0; budget = 0; remaining = RefusalLine r.refusal r.line } }) q
+            ap (λ (z : Layout). record { layout = z; count = 0; transcript = record { state = m; steps = 0; budget = 0; remaining = RefusalLine r } }) p
+            ∙ ap (λ (z : State). record { layout = no_layout; count = 0; transcript = record { state = z; steps = 0; budget = 0; remaining = RefusalLine r } }) q
             ∙ ap (opened_run sheet mem) e;
         size = sym l;
         fits = omega arith;
@@ -56,7 +51,7 @@ module _ (sheet mem stamps : List ℕ) where
         taken = sym no_tests;
         memory_loaded = ap (opened_memory sheet mem) e;
         stamps_loaded = ap (opened_stamps sheet stamps) e;
-      }
+      })
 
   -- the sheet's own stamps stand at the front of what is lent
   own_stamps : (vs : List ℕ) → length vs ≤ length stamps → take (length vs) (sets stamps 0 vs) ≡ vs
@@ -82,17 +77,20 @@ module _ (sheet mem stamps : List ℕ) where
         let i = few in
         ap (λ (z : ℕ). take z stamps_then) c ∙ ap (take (length (sheet_stamps sheet))) g ∙ own_stamps (sheet_stamps sheet) (omega arith)
 
-    pub opened_read : (m : State) → m ≡ start mem_then
-        → OpenPromise sheet mem stamps (record { layout = setup.layout; count = setup.stamps; transcript = before m setup.budget }) mem_then stamps_then
+    pub opened_read : (T : Transcript) → (T ≡ before T.state setup.budget) × (whole_memory mem_then ≡ true → T.state ≡ start mem_then)
+        → OpenPromise sheet mem stamps (record { layout = setup.layout; count = setup.stamps; transcript = T }) mem_then stamps_then
     unfolding sheet_output ReadIsRunnable
-    opened_read m s =
+    opened_read T u =
+        let m = T.state in
+        let s = u.1 (eq-eqb _ _ l) in
         let r = read_is_runnable sheet setup (sym e) in
         let i = few in
         let n : length stamps_then ≡ most_stamps = ap length g ∙ length-sets stamps 0 (sheet_stamps sheet) ∙ k in
         let z : setup.budget - 0 ≡ setup.budget = omega arith in
         let S = setting_of setup.layout (take setup.stamps stamps_then) in
         let timed : timetable (take setup.stamps stamps_then) ≡ true = ap timetable own ∙ r.rising in
-        record {
+        subst (λ (z : Transcript). OpenPromise sheet mem stamps (record { layout = setup.layout; count = setup.stamps; transcript = z }) mem_then stamps_then) (sym u.0)
+        (record {
           result =
               ap (λ (x : State). record { layout = setup.layout; count = setup.stamps; transcript = before x setup.budget }) (s ∙ ap start f)
               ∙ ap (opened_run sheet mem) e;
@@ -110,4 +108,4 @@ module _ (sheet mem stamps : List ℕ) where
               (ready_at_start S mem_then (eq-eqb (length mem_then) memory_bytes l) r.fence timed) (le-leb _ _ r.budget_allowed);
           memory_loaded = f ∙ ap (opened_memory sheet mem) e;
           stamps_loaded = g ∙ ap (opened_stamps sheet stamps) e;
-        }
+        })

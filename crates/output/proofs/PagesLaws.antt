@@ -1,6 +1,6 @@
 -- Pages one after another make the whole. Assumes nothing.
-use Rattle.base.specs.declared.refusal.Refusal.{Refusal}
 use Rattle.std.proofs.Common.{ℕ, zero, suc, ◌+◌, ◌-◌, ◌≤◌, true, ◌≡◌, refl, sym, ◌∙◌, ap, List, [], ◌∷◌, ◌++◌, arith, leb, length, Result}
+use Rattle.base.specs.declared.refusal.Refusal.{Refusal}
 use Rattle.base.specs.Limits.{most_budget}
 use Rattle.base.specs.FirstFailure.{first_failure}
 use Rattle.base.specs.Verdict.{verdict, unrefused}
@@ -50,7 +50,7 @@ module _ (S : Setting) where
   taken_ready : (t : Transcript) (mem : List ℕ) → ReadyToRun S (world_of t mem) → leb t.budget most_budget ≡ true → (remaining : Remaining)
       → verdict (fill_tests S t mem remaining) ≡ unrefused
   unfolding first_failure
-  taken_ready t mem r b (RefusalLine x line) = refl
+  taken_ready t mem r b (RefusalLine x) = refl
   taken_ready t mem r b Header = tests_together t.budget (world_of t mem) r b
   taken_ready t mem r b Steps = tests_together t.budget (world_of t mem) r b
   taken_ready t mem r b Nothing = refl
@@ -59,13 +59,13 @@ module _ (S : Setting) where
   no_lines : (t : Transcript) (mem : List ℕ) (left : ℕ) (remaining : Remaining) → lines_left left remaining ≤ 0
       → verdict (fill_tests S t mem remaining) ≡ unrefused
   unfolding first_failure
-  no_lines t mem left (RefusalLine x line) i = absurd (omega arith)
+  no_lines t mem left (RefusalLine x) i = absurd (omega arith)
   no_lines t mem left Header i = absurd (omega arith)
   no_lines t mem left Steps i = absurd (omega arith)
   no_lines t mem left Nothing i = refl
 
   no_text : (n left : ℕ) (w : World) (remaining : Remaining) → lines_left left remaining ≤ 0 → [] ≡ remaining_text S n left w remaining
-  no_text n left w (RefusalLine x line) i = absurd (omega arith)
+  no_text n left w (RefusalLine x) i = absurd (omega arith)
   no_text n left w Header i = absurd (omega arith)
   no_text n left w Steps i = absurd (omega arith)
   no_text n left w Nothing i = refl
@@ -83,7 +83,7 @@ module _ (S : Setting) where
     taken_after : (remaining : Remaining) → PageIs S room t.steps (t.budget - t.steps) (world_of t mem) remaining p
         → verdict (fill_tests S t mem remaining) ≡ unrefused
         → verdict (fill_tests S (transcript_after t p) p.world.memory p.remaining) ≡ unrefused
-    taken_after (RefusalLine x line) q e =
+    taken_after (RefusalLine x) q e =
         let f = q.fewer i (omega arith) in
         no_lines (transcript_after t p) p.world.memory q.rest p.remaining (omega arith)
     taken_after Header q e = ready_after Header q e

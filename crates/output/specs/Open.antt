@@ -37,7 +37,7 @@ unwritten mem budget remaining = record { state = start mem; steps = 0; budget =
 abbrev pub opened_run : List ℕ → List ℕ → Answer → SheetRun
 opened_run sheet mem (Ok setup) =
     record { layout = setup.layout; count = setup.stamps; transcript = unwritten (sheet_memory sheet) setup.budget Header }
-opened_run sheet mem (Err r) = record { layout = no_layout; count = 0; transcript = unwritten mem 0 (RefusalLine r.refusal r.line) }
+opened_run sheet mem (Err r) = record { layout = no_layout; count = 0; transcript = unwritten mem 0 (RefusalLine r) }
 
 -- the setting of an opened sheet: its layout, and as many of the stamps as are its own
 abbrev pub setting_opened : SheetRun → List ℕ → Setting

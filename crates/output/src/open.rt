@@ -12,7 +12,8 @@ use sheet::reader::read_sheet;
 use steplines::remaining::Remaining;
 use transcribe::progress::Transcript;
 
-// An opened sheet: its layout, how many of the stamps are its own, and its transcript, of which all is still to be written.
+// An opened sheet: its layout, how many of the lent stamps are its own, and its transcript, of which all is still to be written. A count and no
+// slice: the promise sets the answer equal to the definition's, which has no borrowed part.
 #[derive(Clone, Copy)]
 pub struct SheetRun {
     pub layout: Layout,
@@ -20,7 +21,7 @@ pub struct SheetRun {
     pub transcript: Transcript,
 }
 
-// No layout at all.
+// A layout of zeros, and no Option: the caller of a refused sheet's page hands one on, and nothing looks at it.
 fn no_layout() -> Layout
     ensures { result ≡ no_layout }
 {
@@ -32,13 +33,12 @@ fn no_layout() -> Layout
 }
 
 // A transcript of which nothing is written yet: the machine is in the start state of its memory.
+#[tactic(auto, using(base::proofs::Tests::choices), unfolding(definition::specs::Calls::start_call, base::specs::FirstFailure::first_failure))]
 fn unwritten(mem: &[u8], budget: u64, remaining: Remaining) -> Transcript
     ensures { (result ≡ record { state = result.state; steps = 0; budget = budget; remaining = remaining }) × (whole_memory mem.now ≡ true → result.state ≡ start mem.now) }
 {
-    let started = Machine::start(mem);
-    let state = started.machine.0;
     Transcript {
-        state,
+        state: Machine::start(mem).machine.0,
         steps: 0,
         budget,
         remaining,
@@ -57,19 +57,14 @@ pub fn open_sheet(
         Err(refused) => SheetRun {
             layout: no_layout(),
             count: 0,
-            transcript: unwritten(
-                mem,
-                0,
-                Remaining::RefusalLine(refused.refusal, refused.line),
-            ),
+            transcript: unwritten(mem, 0, Remaining::RefusalLine(refused)),
         },
         Ok(setup) => {
             load_memory(mem, text);
             load_stamps(stamps, text);
-            let layout = setup.layout;
             SheetRun {
-                layout,
-                count: setup.stamps as usize,
+                layout: setup.layout,
+                count: setup.stamps,
                 transcript: unwritten(mem, setup.budget, Remaining::Header),
             }
         }

@@ -5,23 +5,25 @@ use layout::rules::Rule;
 use layout::sections::Layout;
 use lines::line::{Content, read_line};
 
+// What is said of each of the five addresses where it is odd.
+const ODD: [LayoutText; 5] = [
+    LayoutText::CodeStartOdd,
+    LayoutText::CodeEndOdd,
+    LayoutText::DataStartOdd,
+    LayoutText::DataEndOdd,
+    LayoutText::ServiceOdd,
+];
+
 // The first odd address.
 fn odd_reason(layout: Layout) -> Reason {
-    let code = layout.code;
-    let data = layout.data;
-    if !is_even(code.start) {
-        return Reason::quoting(Text::Layout(LayoutText::CodeStartOdd), Place::new(1, 1));
+    let addresses: [u16; 5] = layout.into();
+    let told = addresses.iter().zip(ODD).zip(1..);
+    for ((address, text), field) in told {
+        if !is_even(*address) {
+            return Reason::quoting(Text::Layout(text), Place::new(1, field));
+        }
     }
-    if !is_even(code.end) {
-        return Reason::quoting(Text::Layout(LayoutText::CodeEndOdd), Place::new(1, 2));
-    }
-    if !is_even(data.start) {
-        return Reason::quoting(Text::Layout(LayoutText::DataStartOdd), Place::new(1, 3));
-    }
-    if !is_even(data.end) {
-        return Reason::quoting(Text::Layout(LayoutText::DataEndOdd), Place::new(1, 4));
-    }
-    Reason::quoting(Text::Layout(LayoutText::ServiceOdd), Place::new(1, 5))
+    Reason::plain(Text::Layout(LayoutText::AnyRule))
 }
 
 // The rule that is broken: an odd address, a start not below its end, sections that overlap, a service address in one.

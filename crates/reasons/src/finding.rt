@@ -1,14 +1,15 @@
-// Why a sheet is refused, by the refusal and its line.
+// Why a sheet is refused, by its refusal.
 use crate::fence::fence_reason;
 use crate::line::line_reason;
 use crate::part::line_at;
 use crate::reason::{Place, Reason, Text};
 use crate::timetable::stamp_reason;
-use base::refusal::Refusal;
+use base::refusal::{Refusal, SheetRefusal};
 
 // What is wrong.
-pub fn reason_of(sheet: &[u8], refusal: Refusal, line: u64) -> Reason {
-    match refusal {
+pub fn reason_of(sheet: &[u8], refused: SheetRefusal) -> Reason {
+    let line = refused.line;
+    match refused.refusal {
         Refusal::Fence => fence_reason(line_at(sheet, line)),
         Refusal::Timetable => stamp_reason(sheet, line),
         Refusal::Distance => Reason::quoting(Text::BudgetHigh, Place::new(line, 1)),

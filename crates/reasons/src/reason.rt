@@ -72,7 +72,7 @@ pub enum Text {
 }
 
 impl Text {
-    // Its words: a percent sign stands for a field that is quoted.
+    // Its words: a percent sign stands for a field that is quoted. Bytes and no `Display`: a sheet's fields need not be text.
     pub fn words(self) -> &'static [u8] {
         match self {
             Text::Layout(text) => text.words(),

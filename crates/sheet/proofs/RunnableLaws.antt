@@ -1,17 +1,16 @@
 -- What a sheet sets up, the machine takes. Assumes nothing.
-use Rattle.std.proofs.Common.{ℕ, ◌+◌, ◌≤◌, ◌≡◌, ◌∙◌, refl, sym, ap, subst, true, true≢false, List, [], ◌∷◌, Option, None, Some, Ok, Err, Continue, Break, ltb, leb, length, arith}
-use borrow.Author.Tests.{ltb-true, leb-true, le-leb}
-use Rattle.base.specs.Test.{when◌then◌else◌}
+use Rattle.std.proofs.Common.{ℕ, ◌+◌, ◌≤◌, ◌≡◌, refl, true, List, [], ◌∷◌, Option, None, Some, Ok, Err, Continue, Break, leb, length, arith}
+use Rattle.base.specs.Test.{when◌then◌else◌, all}
 use Rattle.base.specs.declared.refusal.Refusal.TheVariants.{Timetable}
-use Rattle.base.proofs.Tests.{cases, choose, each, every, when_true, when_false}
-use Rattle.base.specs.Limits.{last_clock, most_budget, most_sheet_bytes, most_stamps}
+use Rattle.base.proofs.Tests.{choose, choices}
+use Rattle.base.specs.Limits.{most_budget, most_sheet_bytes, most_stamps}
 use Rattle.layout.specs.declared.sections.Layout.{Layout}
 use Rattle.layout.specs.Rules.{accepted}
 use Rattle.definition.specs.Calls.{rising_from, timetable}
 use Rattle.lines.specs.declared.line.Content.{Content}
 use Rattle.lines.specs.declared.line.Content.TheVariants.{Layout as Layouts, Word, Stamp, Budget}
 use Rattle.sheet.specs.declared.reader.Setup.{Setup}
-use Rattle.sheet.specs.declared.reader.SheetRefusal.{SheetRefusal}
+use Rattle.base.specs.declared.refusal.SheetRefusal.{SheetRefusal}
 use Rattle.sheet.specs.declared.reader.StampsSoFar.{StampsSoFar}
 use Rattle.lines.specs.Line.{parse_line}
 use Rattle.sheet.specs.Sheet.{none_follows, nothing_follows, Answer, refused, fits_timetable, budget_answer, stage_of, unless_stopped, if_parsed, body_from, first_of, if_layout, lines_answer, sheet_answer}
@@ -27,41 +26,26 @@ record Adds (L : Layout) (before : StampsSoFar) (stamps : List ℕ) (setup : Set
   few : setup.stamps ≤ most_stamps
   budget_allowed : setup.budget ≤ most_budget
 
-Keeps : Layout → StampsSoFar → List ℕ → Answer → Type 0
-Keeps L before stamps (Ok setup) = Adds L before stamps setup
-Keeps L before stamps (Err r) = Unit {0}
+abbrev Keeps : Layout → StampsSoFar → List ℕ → Answer → Type 0
+Keeps L before stamps a = (setup : Setup) → a ≡ Ok setup → Adds L before stamps setup
+
+-- a refusal is no setup
+refused_keeps : (L : Layout) (before : StampsSoFar) (stamps : List ℕ) (r : SheetRefusal) → Keeps L before stamps (Err r)
+refused_keeps L before stamps r setup e = absurd (cc)
 
 -- nothing follows: no stamp does
 no_stamp_follows : (ps : List (List ℕ)) → nothing_follows ps ≡ true → stamps_from ps ≡ []
 unfolding stamps_from
 no_stamp_follows [] e = refl
 no_stamp_follows ([] ∷ []) e = rw empty_line
-no_stamp_follows ([] ∷ (q ∷ ps)) e = absurd (true≢false (sym e))
-no_stamp_follows ((x ∷ p) ∷ ps) e = absurd (true≢false (sym e))
+no_stamp_follows ([] ∷ (q ∷ ps)) e = absurd (cc)
+no_stamp_follows ((x ∷ p) ∷ ps) e = absurd (cc)
 
 module _ (L : Layout) (n : ℕ) (before : StampsSoFar) (h : before.count ≤ most_stamps) where
   -- the budget's line ends a sheet
   budget_keeps : (b : ℕ) (ps : List (List ℕ)) → Keeps L before (stamps_from ps) (budget_answer L n before.count b (nothing_follows ps))
-  unfolding budget_answer Keeps
-  budget_keeps b ps =
-      cases (leb b most_budget)
-      (λ e.
-      cases (nothing_follows ps)
-      (λ f. rw (e, f, no_stamp_follows ps f) (unfold rising_from when◌then◌else◌ in record {
-        layout = refl;
-        rising = refl;
-        counted = omega arith;
-        few = h;
-        budget_allowed = leb-true _ _ e;
-      }))
-      (λ f. rw (e, f) (unfold when◌then◌else◌ in tt)))
-      (λ e. rw e (unfold when◌then◌else◌ in tt))
-
--- a stamp that fits, before stamps that rise from it
-rises : (last s : ℕ) (ss : List ℕ) → ltb last s ≡ true → leb s last_clock ≡ true → rising_from s ss ≡ true
-    → rising_from last (s ∷ ss) ≡ true
-unfolding rising_from
-rises last s ss h k r = when_true _ _ _ (every (ltb last s ∷ leb s last_clock ∷ []) (h, (k, tt))) ∙ r
+  unfolding budget_answer rising_from
+  budget_keeps b ps setup e = grind (arith, choices, no_stamp_follows ps)
 
 -- a line after L, where the further ones keep what they must
 module _ (L : Layout) (n : ℕ) (before : StampsSoFar) (h : before.count ≤ most_stamps) (ps : List (List ℕ))
@@ -70,39 +54,18 @@ module _ (L : Layout) (n : ℕ) (before : StampsSoFar) (h : before.count ≤ mos
   abbrev with : ℕ → StampsSoFar
   with s = record { last = s; count = before.count + 1 }
 
-  add : (s : ℕ) → fits_timetable before s ≡ true → (a : Answer) → Keeps L (with s) (stamps_from ps) a
-      → Keeps L before (s ∷ stamps_from ps) a
-  unfolding fits_timetable Keeps
-  add s f (Err r) k = tt
-  add s f (Ok setup) k =
-      let g = each (ltb before.count most_stamps ∷ ltb before.last s ∷ leb s last_clock ∷ []) f in
-      let c = k.counted in
-      record {
-        layout = k.layout;
-        rising = rises before.last s (stamps_from ps) g.1.0 g.1.1.0 k.rising;
-        counted = omega arith;
-        few = k.few;
-        budget_allowed = k.budget_allowed;
-      }
-
   -- a stamp that fits goes on, one that does not stops
   stamp_keeps : (s : ℕ) → Keeps L before (s ∷ stamps_from ps)
       (unless_stopped (when fits_timetable before s then Continue (with s) else Break (refused Timetable n))
       (λ more. body_from L (n + 1) more ps))
-  unfolding fits_timetable Keeps
-  stamp_keeps s =
-      cases (fits_timetable before s)
-      (λ f.
-      let g = each (ltb before.count most_stamps ∷ ltb before.last s ∷ leb s last_clock ∷ []) f in
-      let k : before.count + 1 ≤ most_stamps = omega (arith, ltb-true before.count most_stamps g.0) in
-      rw (when_true _ (Continue (with s)) (Break (refused Timetable n)) f) (add s f (body_from L (n + 1) (with s) ps) (further (with s) k)))
-      (λ f. rw (when_false _ (Continue (with s)) (Break (refused Timetable n)) f) tt)
+  unfolding fits_timetable rising_from all
+  stamp_keeps s setup e = grind (arith, choices, further (with s))
 
   content_keeps : (content : Content)
       → Keeps L before (stamp_of (Some content) (stamps_from ps))
       (unless_stopped (stage_of L n before content (nothing_follows ps)) (λ more. body_from L (n + 1) more ps))
-  unfolding stage_of Keeps
-  content_keeps (Layouts M) = tt
+  unfolding stage_of
+  content_keeps (Layouts M) = refused_keeps _ _ _ _
   content_keeps (Word a w) = further before h
   content_keeps (Stamp s) = stamp_keeps s
   content_keeps (Budget b) = budget_keeps L n before h b ps
@@ -110,17 +73,16 @@ module _ (L : Layout) (n : ℕ) (before : StampsSoFar) (h : before.count ≤ mos
   line_keeps : (line : Option Content)
       → Keeps L before (stamp_of line (stamps_from ps))
       (if_parsed n line (λ content. unless_stopped (stage_of L n before content (nothing_follows ps)) (λ more. body_from L (n + 1) more ps)))
-  unfolding Keeps
-  line_keeps None = tt
+  line_keeps None = refused_keeps _ _ _ _
   line_keeps (Some content) = content_keeps content
 
 -- the lines after L
 body_keeps : (L : Layout) (ps : List (List ℕ)) (n : ℕ) (before : StampsSoFar) → before.count ≤ most_stamps
     → Keeps L before (stamps_from ps) (body_from L n before ps)
-unfolding body_from stamps_from Keeps
-body_keeps L [] n before h = tt
+unfolding body_from stamps_from
+body_keeps L [] n before h = refused_keeps _ _ _ _
 body_keeps L (p ∷ ps) n before h =
-    choose (Keeps L before (stamp_of (parse_line p) (stamps_from ps))) (none_follows ps) (λ e. tt)
+    choose (Keeps L before (stamp_of (parse_line p) (stamps_from ps))) (none_follows ps) (λ e. refused_keeps _ _ _ _)
     (λ e. line_keeps L n before h ps (λ more k. body_keeps L ps (n + 1) more k) (parse_line p))
 
 -- the first line: its own piece says no stamp
@@ -135,17 +97,8 @@ abbrev none_yet : StampsSoFar
 none_yet = record { last = 0; count = 0 }
 
 body_runnable : (L : Layout) (ps : List (List ℕ)) → accepted L ≡ true → ReadRunnable (stamps_from ps) (body_from L 2 none_yet ps)
-unfolding Keeps timetable
-body_runnable L ps f setup e =
-    let k : Adds L none_yet (stamps_from ps) setup = subst (Keeps L none_yet (stamps_from ps)) e (body_keeps L ps 2 none_yet (omega arith)) in
-    let c = k.counted in
-    let w = k.few in
-    record {
-      fence = ap accepted k.layout ∙ f;
-      rising = every (leb (length (stamps_from ps)) most_stamps ∷ rising_from 0 (stamps_from ps) ∷ []) (le-leb (length (stamps_from ps)) most_stamps (omega arith), (k.rising, tt));
-      counted = omega arith;
-      budget_allowed = k.budget_allowed;
-    }
+unfolding timetable all
+body_runnable L ps f setup e = grind (arith, choices, body_keeps L ps 2 none_yet (omega arith) setup e)
 
 first_runnable : (line : Option Content) (ps : List (List ℕ))
     → ReadRunnable (stamp_of line (stamps_from ps)) (if_parsed 1 line (λ content. if_layout (first_of content) (λ L. body_from L 2 none_yet ps)))

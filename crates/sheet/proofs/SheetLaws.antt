@@ -1,14 +1,13 @@
 -- The lines of a sheet, one at a time: what stands before the first newline is the first line. Assumes nothing.
-use Rattle.std.proofs.Common.{ℕ, suc, ◌+◌, ◌≤◌, ◌<◌, ◌≡◌, ◌∙◌, refl, sym, ap, false, List, [], ◌∷◌, None, Some, Continue, Break, eqb, length, length-drop, arith}
+use Rattle.std.proofs.Common.{ℕ, ◌+◌, ◌≤◌, ◌<◌, ◌≡◌, ◌∙◌, refl, ap, false, List, [], ◌∷◌, None, Some, Continue, Break, eqb, length, length-drop, arith}
 use Rattle.std.specs.List.{onto_first}
-use borrow.Author.Tests.{ne_eqb, le-leb}
 use Rattle.base.specs.Limits.{most_sheet_bytes}
 use Rattle.base.specs.Test.{when◌then◌else◌}
 use Rattle.base.specs.declared.refusal.Refusal.TheVariants.{Line as LineRefusal}
-use Rattle.base.proofs.Tests.{cases, when_true, when_false}
+use Rattle.base.proofs.Tests.{choices}
 use Rattle.layout.specs.declared.sections.Layout.{Layout}
 use Rattle.lines.specs.declared.line.Content.{Content}
-use Rattle.lines.specs.declared.line.Content.TheVariants.{Layout as Layouts, Word, Stamp, Budget}
+use Rattle.lines.specs.declared.line.Content.TheVariants.{Layout as Layouts}
 use Rattle.sheet.specs.declared.reader.StampsSoFar.{StampsSoFar}
 use Rattle.text.specs.Text.{newline, find, head, rest}
 use Rattle.lines.specs.Line.{parse_line}
@@ -26,15 +25,12 @@ onto_first_filled x (p ∷ ps) = (refl, refl)
 pub pieces_filled : (s : List ℕ) → none_follows (pieces s) ≡ false
 unfolding pieces
 pieces_filled [] = refl
-pieces_filled (x ∷ xs) = cases (eqb x newline) (λ e. rw e) (λ e. rw e (onto_first_filled x (pieces xs)).0)
+pieces_filled (x ∷ xs) = grind (arith, choices, onto_first_filled x (pieces xs))
 
 pub pieces_nothing : (s : List ℕ) → nothing_follows (pieces s) ≡ eqb (length s) 0
 unfolding pieces
 pieces_nothing [] = refl
-pieces_nothing (x ∷ xs) =
-    let z : nothing_follows (pieces (x ∷ xs)) ≡ false =
-    cases (eqb x newline) (λ e. rw e (pieces_filled xs)) (λ e. rw e (onto_first_filled x (pieces xs)).1) in
-    z ∙ sym (ne_eqb (suc (length xs)) 0 (λ e. omega arith))
+pieces_nothing (x ∷ xs) = grind (arith, choices, pieces_filled xs, onto_first_filled x (pieces xs))
 
 -- a line and its newline are left behind
 pub rest_shorter : (s : List ℕ) → find s newline < length s → length (rest s newline) + 1 ≤ length s
@@ -54,8 +50,7 @@ module _ (L : Layout) (n : ℕ) (stamps : StampsSoFar) (s : List ℕ) where
         (λ more. body_from L (n + 1) more (pieces (rest s newline))))
     unfolding body_from
     body_here =
-        rw (pieces_here s h)
-        (when_false _ _ _ (pieces_filled (rest s newline)) ∙ rw (pieces_nothing (rest s newline)))
+        grind (arith, choices, pieces_here s h, pieces_filled (rest s newline), pieces_nothing (rest s newline))
 
     pub body_unreadable : parse_line (head s newline) ≡ None → body_from L n stamps (pieces s) ≡ refused LineRefusal n
     body_unreadable e = body_here ∙ rw e
@@ -86,18 +81,15 @@ module _ (s : List ℕ) where
       ≡ if_parsed 1 (parse_line (head s newline))
       (λ content. if_layout (first_of content) (λ L. body_from L 2 (record { last = 0; count = 0 }) (pieces (rest s newline))))
   unfolding lines_answer
-  first_here h = rw (pieces_here s h) (when_false _ _ _ (pieces_filled (rest s newline)))
+  first_here h = grind (arith, choices, pieces_here s h, pieces_filled (rest s newline))
 
   pub sheet_lines : length s ≤ most_sheet_bytes → sheet_answer s ≡ lines_answer (pieces s)
   unfolding sheet_answer
-  sheet_lines h = when_true _ _ _ (le-leb _ _ h)
+  sheet_lines h = grind (arith, choices)
 
 -- what is no layout
 pub no_layout_first : (content : Content) → ((L : Layout) → content ≡ Layouts L → ⊥) → first_of content ≡ None
-no_layout_first (Layouts L) h = absurd (h L refl)
-no_layout_first (Word a w) h = refl
-no_layout_first (Stamp s) h = refl
-no_layout_first (Budget b) h = refl
+no_layout_first content h = grind arith
 
 -- ---- what the reader promises
 
@@ -105,7 +97,7 @@ pub sheet_promised : (sheet : List ℕ) (answer : Answer) → answer ≡ sheet_a
 sheet_promised sheet answer e = record { result = e; number = ap sheet_refusal e; line = ap refused_line e }
 
 -- the lines after L, one at a time
-pub ruleset body_steps = (body_last, body_unreadable, body_stops, body_goes)
+pub ruleset body_steps = (rest_shorter, body_last, body_unreadable, body_stops, body_goes)
 
 -- the first line, by what it says
 pub ruleset first_steps = (first_last, first_here, sheet_lines, no_layout_first, sheet_promised)

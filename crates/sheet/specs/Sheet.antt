@@ -12,7 +12,7 @@ use Rattle.layout.specs.Rules.{accepted}
 use Rattle.lines.specs.declared.line.Content.{Content}
 use Rattle.lines.specs.declared.line.Content.TheVariants.{Layout as Layouts, Word, Stamp, Budget}
 use Rattle.sheet.specs.declared.reader.Setup.{Setup}
-use Rattle.sheet.specs.declared.reader.SheetRefusal.{SheetRefusal}
+use Rattle.base.specs.declared.refusal.SheetRefusal.{SheetRefusal}
 use Rattle.sheet.specs.declared.reader.StampsSoFar.{StampsSoFar}
 use Rattle.lines.specs.Line.{parse_line}
 use Rattle.loader.specs.Setup.{pieces}

@@ -6,41 +6,26 @@ ghost use Rattle.loader.specs.Setup.{pieces};
 ghost use Rattle.sheet.specs.Sheet.{fits_timetable, budget_answer, stage_of, body_from, SheetPromise};
 
 use base::limits::{LAST_CLOCK, MOST_BUDGET, MOST_SHEET_BYTES, MOST_STAMPS};
-use base::refusal::Refusal;
+use base::refusal::{Refusal, SheetRefusal};
 use layout::sections::Layout;
 use lines::line::{Content, read_line};
 use std::ops::ControlFlow;
 use text::text::{head, holds_byte, rest};
 
-// What a sheet sets up: the layout, how many stamps the timetable has, the budget.
+// What a sheet sets up: the layout, how many stamps the timetable has, the budget. The count and no Vec: the machine takes no heap, so the
+// stamps are loaded into the front of what a caller lends.
 #[derive(Clone, Copy)]
 pub struct Setup {
     pub layout: Layout,
-    pub stamps: u64,
+    pub stamps: usize,
     pub budget: u64,
 }
 
-// Why a sheet is refused: the first refusal, and the line that it is for, 0 for the sheet as a whole.
-#[derive(Clone, Copy)]
-pub struct SheetRefusal {
-    pub refusal: Refusal,
-    pub line: u64,
-}
-
-impl SheetRefusal {
-    // A refusal for a line.
-    fn new(refusal: Refusal, line: u64) -> SheetRefusal
-        ensures { result ≡ record { refusal = refusal; line = line } }
-    {
-        SheetRefusal { refusal, line }
-    }
-}
-
-// The stamps so far: the last one, 0 before the first, and how many.
+// The stamps so far: the last one, and how many. Before the first the last is 0, which is below every stamp.
 #[derive(Clone, Copy)]
 pub struct StampsSoFar {
     pub last: u64,
-    pub count: u64,
+    pub count: usize,
 }
 
 impl StampsSoFar {
@@ -49,7 +34,7 @@ impl StampsSoFar {
     fn with(self, stamp: u64) -> Option<StampsSoFar>
         ensures { result ≡ (when fits_timetable self stamp then Some (record { last = stamp; count = self.count + 1 }) else None) }
     {
-        if self.count < MOST_STAMPS as u64 && self.last < stamp && stamp <= LAST_CLOCK {
+        if self.count < MOST_STAMPS && self.last < stamp && stamp <= LAST_CLOCK {
             return Some(StampsSoFar {
                 last: stamp,
                 count: self.count + 1,
@@ -64,7 +49,7 @@ impl StampsSoFar {
 fn budget_answer(
     layout: Layout,
     n: u64,
-    count: u64,
+    count: usize,
     budget: u64,
     last: bool,
 ) -> Result<Setup, SheetRefusal>
@@ -110,7 +95,8 @@ fn read_stage(
 }
 
 // The lines after L. Each line's answer is taken apart, and a bad one leaves with its number.
-// By `head` and `rest`, and no `for` over `split`: that gives also what no newline ends, which is no line.
+// By `head` and `rest`, the form that document 01 asks for: the next line is handed back as a part of the sheet, and G must know whether anything
+// follows it.
 #[tactic(auto, using(text::proofs::Choices::choices, crate::proofs::SheetLaws::body_steps))]
 fn read_body(layout: Layout, body: &[u8]) -> Result<Setup, SheetRefusal>
     requires { length body.now ≤ most_sheet_bytes }

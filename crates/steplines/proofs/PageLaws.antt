@@ -1,5 +1,5 @@
 -- The lines of a page, one after another: what each turn of the loop that writes them keeps. Assumes nothing.
-use Rattle.std.proofs.Common.{◌≡◌, ℕ, zero, suc, ◌+◌, ◌-◌, ◌≤◌, ◌<◌, Bool, true, false, true≢false, List, [], ◌++◌, leb, ltb, length, refl, sym, ◌∙◌, ap, subst, arith, append_assoc, append-nil, le-ltb, lt-ltb, le-leb, Option, None, Some}
+use Rattle.std.proofs.Common.{◌≡◌, ℕ, zero, suc, ◌+◌, ◌-◌, ◌≤◌, ◌<◌, Bool, true, false, List, [], ◌++◌, leb, ltb, length, refl, sym, ◌∙◌, ap, subst, arith, append_assoc, append-nil, le-ltb, lt-ltb, le-leb, None, Some}
 use Rattle.std.proofs.Math.Seq.{length-sets}
 use Rattle.std.proofs.lemmas.Bool.{lt-leb}
 use Rattle.std.proofs.lemmas.List.Edits.{sets}
@@ -28,8 +28,8 @@ use Rattle.transcript.proofs.TranscriptLaws.{Put, put_then}
 use Rattle.steplines.specs.declared.remaining.Remaining.{Remaining}
 use Rattle.steplines.specs.declared.remaining.Remaining.TheVariants.{Steps, Nothing}
 use Rattle.steplines.specs.Page.{line_room, line_of, Page, empty_page, behind, end_page, end_or, page_from}
-use Rattle.steplines.specs.internal.Course.{course, by_course, goes_on}
-use Rattle.steplines.specs.internal.Written.{PageWritten, LastLine, last_text, last_remaining, no_line}
+use Rattle.steplines.specs.internal.Course.{course, by_course}
+use Rattle.steplines.specs.internal.Written.{PageWritten, LastLine, no_line}
 
 module _ (S : Setting) where
   -- the lines that follow where the run goes on
@@ -79,13 +79,6 @@ module _ (S : Setting) where
   page_full room n zero w i = when_true _ _ _ (lt-ltb room line_room i)
   page_full room n (suc left) w i = when_true _ _ _ (lt-ltb room line_room i)
 
--- the page of an end
-last_page : (n : ℕ) (w : World) (further : Page) (going : Option End) → goes_on going ≡ false
-    → by_course n w further going
-    ≡ record { text = last_text going n w.state.time.clock; steps = n; world = w; remaining = last_remaining going }
-last_page n w further None e = absurd (true≢false e)
-last_page n w further (Some x) e = refl
-
 -- a text behind a text
 behind_twice : (text line : List ℕ) (p : Page) → behind text (behind line p) ≡ behind (text ++ line) p
 behind_twice text line p =
@@ -121,17 +114,6 @@ module _ (L : Layout) (start made budget : ℕ) (from : World) (entry : List ℕ
     pub here : AtClock r w.state.time.clock
     pub lands : whole (setting_with L r) start made budget from entry
         ≡ behind text (page_from (setting_with L r) (length entry - filled) steps (budget - steps) w)
-
-  pub page_first : start ≤ length entry → (r : Requests) → AtClock r from.state.time.clock → PageKeeps entry from made start r
-  page_first i r h =
-      record {
-        size = refl;
-        fits = i;
-        text = [];
-        put = record { ends = omega arith; lies = refl };
-        here = h;
-        lands = refl;
-      }
 
   module _ (out : List ℕ) (w : World) (steps filled : ℕ) (r : Requests) (t : PageKeeps out w steps filled r) where
     abbrev S : Setting
@@ -180,17 +162,16 @@ module _ (L : Layout) (start made budget : ℕ) (from : World) (entry : List ℕ
         page_written _ entry out start filled steps w Steps (t.text ++ []) e (rw append-nil t.put) t.fits
 
     -- the end's line
-    pub page_ends_last : line_room ≤ length out - filled → (going : Option End) → going ≡ course w.state.halted w.state.time.clock steps budget
-        → goes_on going ≡ false → (exit : List ℕ) (next : ℕ) → Put out exit filled next (last_text going steps w.state.time.clock) → next ≤ length out
-        → PageWritten (whole S start made budget from entry) entry exit start next steps w (last_remaining going)
-    page_ends_last i going g f exit next p k =
+    pub page_ends_last : line_room ≤ length out - filled → (end : End) → Some end ≡ course w.state.halted w.state.time.clock steps budget
+        → (exit : List ℕ) (next : ℕ) → Put out exit filled next (end_line end steps w.state.time.clock) → next ≤ length out
+        → PageWritten (whole S start made budget from entry) entry exit start next steps w Nothing
+    page_ends_last i end g exit next p k =
         let l = page_length in
         let e = t.lands
         ∙ ap (behind t.text)
         (page_course S (length entry - filled) steps budget w (omega arith)
-        ∙ ap (by_course steps w (further_from S (length entry - filled) steps budget w)) (sym g)
-        ∙ last_page steps w (further_from S (length entry - filled) steps budget w) going f) in
-        page_written _ entry exit start next steps w (last_remaining going) (t.text ++ last_text going steps w.state.time.clock) e (put_then t.put p) (omega arith)
+        ∙ ap (by_course steps w (further_from S (length entry - filled) steps budget w)) (sym g)) in
+        page_written _ entry exit start next steps w Nothing (t.text ++ end_line end steps w.state.time.clock) e (put_then t.put p) (omega arith)
 
     -- the stamps before the upcoming one are passed after a step too
     pub page_passed : w.state.halted ≡ false → (m : State) (bytes : List ℕ) (o : Outcome) → gives m bytes o ≡ step_of S w
@@ -199,17 +180,6 @@ module _ (L : Layout) (start made budget : ℕ) (from : World) (entry : List ℕ
         let rises = clock_rises S w.state w.memory h in
         let e : m.time.clock ≡ (step_of S w).state.time.clock = ap (λ (z : Step). z.state.time.clock) s in
         passed_later _ _ _ m.time.clock (omega arith) t.here
-
--- what the end's line leaves, by whether there is one
-module _ (going : Option End) (c : Control) (steps : ℕ) (entry exit : List ℕ) (filled : ℕ) where
-  pub last_none : going ≡ None → filled ≤ length entry → LastLine going c steps entry entry filled (no_line c steps filled)
-  last_none e i = rw e (record { bytes = refl; ends = omega arith; fits = i; control = refl; count = refl; rest = refl })
-
-  pub last_end : (end : End) → going ≡ Some end → (next : ℕ)
-      → (next ≡ filled + length (end_line end steps c.time.clock))
-      × ((next ≤ length entry) × (exit ≡ sets entry filled (end_line end steps c.time.clock)))
-      → LastLine going c steps entry exit filled (record { control = c; steps = steps; filled = next; remaining = Nothing })
-  last_end end e next p = rw e (record { bytes = p.1.1; ends = p.0; fits = p.1.0; control = refl; count = refl; rest = refl })
 
 -- the page where the loop ends, of the timetable that its requests stand on
 module _ (L : Layout) (start made budget : ℕ) (from : World) (entry out rs saved mem : List ℕ) (c : Control) (steps filled : ℕ) (r : Requests)
@@ -226,13 +196,13 @@ module _ (L : Layout) (start made budget : ℕ) (from : World) (entry out rs sav
       (world (with_registers rs saved done.control) mem) done.remaining) same p
 
   -- with the end's line behind the lines before it
-  pub page_ends : line_room ≤ length out - filled → (going : Option End) → going ≡ course c.halted c.time.clock steps budget
-      → goes_on going ≡ false → (exit : List ℕ) (done : StepsWritten) → LastLine going c steps out exit filled done
+  pub page_ends : line_room ≤ length out - filled → (end : End) → Some end ≡ course c.halted c.time.clock steps budget
+      → (exit : List ℕ) (done : StepsWritten) → LastLine end c steps out exit filled done
       → PageWritten (whole (setting_of L T.stamps.now) start made budget from entry) entry exit start done.filled done.steps
       (world (with_registers rs saved done.control) mem) done.remaining
-  page_ends i going g f exit done l =
+  page_ends i end g exit done l =
       let p = page_ends_last L start made budget from entry out (world (with_registers rs saved c) mem) steps filled r t
-      i going g f exit done.filled (record { ends = l.ends; lies = l.bytes }) l.fits in
+      i end g exit done.filled (record { ends = l.ends; lies = l.bytes }) l.fits in
       of_timetable exit done
       (record {
         bytes = p.bytes;

@@ -1,10 +1,10 @@
 // What is still to be written of a transcript.
-use base::refusal::Refusal;
+use base::refusal::SheetRefusal;
 
-// What is still to be written: a sheet's refusal, with its line; the header and what follows it; steps and the end; nothing.
+// What is still to be written: a sheet's refusal; the header and what follows it; steps and the end; nothing.
 #[derive(Clone, Copy)]
 pub enum Remaining {
-    RefusalLine(Refusal, u64),
+    RefusalLine(SheetRefusal),
     Header,
     Steps,
     Nothing,

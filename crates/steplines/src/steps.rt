@@ -38,7 +38,8 @@ pub struct StepsWritten {
     pub remaining: Remaining,
 }
 
-// Whether a run goes on: the ends in their order.
+// The end of a run, where it has come to one: the ends in their order. The loop of a run has them as its breaks, the form that document 01 asks for.
+#[tactic(auto, using(base::proofs::Tests::choices, std::proofs::lemmas::Bool::Decides::nat_tests), unfolding(crate::specs::internal::Course::course))]
 fn course_of(halted: bool, clock: u64, steps: u64, budget: u64) -> Option<End>
     ensures { result ≡ course halted clock steps budget }
 {
@@ -54,7 +55,9 @@ fn course_of(halted: bool, clock: u64, steps: u64, budget: u64) -> Option<End>
     None
 }
 
-// Puts a step's line behind what is filled.
+// Puts a step's line behind what is filled. That there is room for a line is asked by this, `put_end` and `last_line`, and in no struct: the loop
+// tests it once for all three.
+#[tactic(auto, using(crate::proofs::PartLaws::part_sets))]
 fn put_step(
     out: &mut [u8],
     filled: usize,
@@ -67,19 +70,16 @@ fn put_step(
     requires { filled + line_room ≤ length out.old }
     ensures { (result ≡ filled + length (step_line n kind clock pc sr)) × ((result ≤ length out.old) × (out.new ≡ sets out.old filled (step_line n kind clock pc sr))) }
 {
-    let end = out.len();
-    let k = step_line(&mut out[filled..end], n, kind, clock, pc, sr);
-    filled + k
+    filled + step_line(&mut out[filled..], n, kind, clock, pc, sr)
 }
 
 // Puts the end's line behind what is filled.
+#[tactic(auto, using(crate::proofs::PartLaws::part_sets))]
 fn put_end(out: &mut [u8], filled: usize, end: End, steps: u64, clock: u64) -> usize
     requires { filled + line_room ≤ length out.old }
     ensures { (result ≡ filled + length (end_line end steps clock)) × ((result ≤ length out.old) × (out.new ≡ sets out.old filled (end_line end steps clock))) }
 {
-    let last = out.len();
-    let k = end_line(&mut out[filled..last], end, steps, clock);
-    filled + k
+    filled + end_line(&mut out[filled..], end, steps, clock)
 }
 
 // No line is written, and steps remain.
@@ -95,29 +95,20 @@ fn no_line(control: Control, steps: u64, filled: usize) -> StepsWritten
 }
 
 // The end's line, where a run stops.
-fn last_line(
-    control: Control,
-    steps: u64,
-    out: &mut [u8],
-    filled: usize,
-    going: Option<End>,
-) -> StepsWritten
+fn last_line(control: Control, steps: u64, out: &mut [u8], filled: usize, end: End) -> StepsWritten
     requires { filled + line_room ≤ length out.old }
-    ensures { LastLine going control steps out.old out.new filled result }
+    ensures { LastLine end control steps out.old out.new filled result }
 {
-    match going {
-        None => no_line(control, steps, filled),
-        Some(end) => StepsWritten {
-            control,
-            steps,
-            filled: put_end(out, filled, end, steps, control.time.clock),
-            remaining: Remaining::Nothing,
-        },
+    StepsWritten {
+        control,
+        steps,
+        filled: put_end(out, filled, end, steps, control.time.clock),
+        remaining: Remaining::Nothing,
     }
 }
 
 // The step of a line, fast if it can be. It is `one_step` once more: with two callers that one is not inlined into a step call, which then
-// takes half as long again (docs/DECISIONS.md, *The loop over step*).
+// takes a quarter more instructions (docs/DECISIONS.md, *The loop over step*).
 fn line_step(
     control: Control,
     registers: &mut [u16; 16],
@@ -128,14 +119,12 @@ fn line_step(
 ) -> Answered<Control, Outcome>
     ensures { control.time.clock ≤ last_clock → AtClock requests.entry control.time.clock → gives (with_registers registers.new saved.new result.machine) mem.new result.answer ≡ step_of (setting_with layout requests.entry) (world (with_registers registers.old saved.old control) mem.old) }
 {
-    let context = control.context;
-    let clock = control.time.clock;
     let until = fast_until(control, registers[2], requests);
     let burst = fast_steps(
         registers,
         control.previous,
-        clock,
-        is_held(context),
+        control.time.clock,
+        is_held(control.context),
         mem,
         layout,
         until,
@@ -149,16 +138,15 @@ fn line_step(
     }
     let m = control.state(*registers, *saved);
     let done = take_step(m, mem, layout, requests);
-    let next = done.machine;
-    let outcome = done.answer;
     Answered {
-        machine: put_back(next, registers, saved),
-        answer: outcome,
+        machine: put_back(done.machine, registers, saved),
+        answer: done.answer,
     }
 }
 
 // The lines of a run, from where it stands, behind what is filled: none where that is past the end of the buffer. The index of the upcoming
-// stamp goes along with the clock.
+// stamp goes along with the clock. Buffer and index go apart, and not as a `Line`: the caller is left with the index.
+#[tactic(auto, using(crate::proofs::CourseLaws::course_told))]
 pub fn write_steps(
     control: Control,
     registers: &mut [u16; 16],
@@ -182,25 +170,21 @@ pub fn write_steps(
     let mut filled = start;
     // No `for`: how many lines there is room for is known only as they are written.
     while LINE_ROOM <= out.len() - filled {
-        let going = course_of(current.halted, current.time.clock, steps, budget);
-        let None = going else {
-            return last_line(current, steps, out, filled, going);
-        };
+        if let Some(end) = course_of(current.halted, current.time.clock, steps, budget) {
+            return last_line(current, steps, out, filled, end);
+        }
         let done = line_step(current, registers, saved, mem, layout, requests);
-        let next = done.machine;
-        let kind = done.answer;
+        current = done.machine;
         steps += 1;
-        let further = put_step(
+        filled = put_step(
             out,
             filled,
             steps,
-            kind,
-            next.time.clock,
+            done.answer,
+            current.time.clock,
             registers[0],
             registers[2],
         );
-        current = next;
-        filled = further;
         requests = requests.at(current.time.clock);
     }
     no_line(current, steps, filled)

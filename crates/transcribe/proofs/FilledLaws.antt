@@ -3,6 +3,7 @@ use Rattle.std.proofs.Common.{ℕ, ◌+◌, ◌-◌, ◌≤◌, ◌<◌, true, �
 use Rattle.std.proofs.lemmas.List.Edits.{sets}
 use Rattle.std.proofs.Math.Seq.{length-sets}
 use Rattle.base.specs.declared.refusal.Refusal.{Refusal}
+use Rattle.base.specs.declared.refusal.SheetRefusal.{SheetRefusal}
 use Rattle.base.specs.FirstFailure.{first_failure}
 use Rattle.base.specs.Verdict.{verdict, unrefused}
 use Rattle.base.proofs.Tests.{when_true, when_false}
@@ -34,15 +35,6 @@ use Rattle.transcribe.proofs.TextLaws.{PageIs, still, page_of_is, world_counted}
 pub no_tests : unrefused ≡ verdict []
 unfolding first_failure
 no_tests = refl
-
--- what an answer says of the verdict that it was made by
-pub answered_taken : (v : Result (Unit {0}) Refusal) (n k : ℕ) → Ok n ≡ written_by v k → (unrefused ≡ v) × (n ≡ k)
-answered_taken (Ok _) n k e = (refl, cc)
-answered_taken (Err r) n k e = absurd (cc)
-
-pub answered_refused : (v : Result (Unit {0}) Refusal) (r : Refusal) (k : ℕ) → Err r ≡ written_by v k → Err r ≡ v
-answered_refused (Ok _) r k e = absurd (cc)
-answered_refused (Err f) r k e = cc
 
 -- what a call that is taken knows
 pub taken_timed : (L : Layout) (stamps : List ℕ) (budget : ℕ) (w : World) (v : Result (Unit {0}) Refusal)
@@ -102,10 +94,10 @@ module _ (S : Setting) (t : Transcript) (mem : List ℕ) where
   unfolding page_of
   header_full room i = when_true _ _ _ (lt-ltb room line_room i)
 
-  pub refusal_full : (room : ℕ) (r : Refusal) (line : ℕ) → t.remaining ≡ RefusalLine r line → room < line_room
+  pub refusal_full : (room : ℕ) (r : SheetRefusal) → t.remaining ≡ RefusalLine r → room < line_room
       → page room t.remaining ≡ empty_page t.steps (world_of t mem) t.remaining
   unfolding page_of
-  refusal_full room r line e i =
+  refusal_full room r e i =
       ap (page room) e ∙ when_true _ _ _ (lt-ltb room line_room i) ∙ ap (empty_page t.steps (world_of t mem)) (sym e)
 
   pub nothing_left : (room : ℕ) → page room Nothing ≡ empty_page t.steps (world_of t mem) Nothing
@@ -114,22 +106,22 @@ module _ (S : Setting) (t : Transcript) (mem : List ℕ) where
 
   -- ---- the refusal's line
 
-  pub refusal_filled : (entry exit : List ℕ) (r : Refusal) (line k : ℕ) → t.remaining ≡ RefusalLine r line → line_room ≤ length entry
-      → k ≡ length (refusal_line r line) → k ≤ 64 → exit ≡ sets entry 0 (refusal_line r line)
+  pub refusal_filled : (entry exit : List ℕ) (r : SheetRefusal) (k : ℕ) → t.remaining ≡ RefusalLine r → line_room ≤ length entry
+      → k ≡ length (refusal_line r.refusal r.line) → k ≤ 64 → exit ≡ sets entry 0 (refusal_line r.refusal r.line)
       → PageFilled (page (length entry) t.remaining) unrefused t
       (record {
         transcript = record { state = t.state; steps = t.steps; budget = t.budget; remaining = Nothing };
         written = Ok k;
       }) mem entry exit 0
   unfolding page_of
-  refusal_filled entry exit r line k e i n m b =
-      let q = behind (refusal_line r line) (empty_page t.steps (world_of t mem) Nothing) in
+  refusal_filled entry exit r k e i n m b =
+      let q = behind (refusal_line r.refusal r.line) (empty_page t.steps (world_of t mem) Nothing) in
       let s : page (length entry) t.remaining ≡ q = ap (page (length entry)) e ∙ when_false _ _ _ (le-ltb (length entry) line_room i) in
-      let a : refusal_line r line ++ [] ≡ refusal_line r line = append-nil (refusal_line r line) in
+      let a : refusal_line r.refusal r.line ++ [] ≡ refusal_line r.refusal r.line = append-nil (refusal_line r.refusal r.line) in
       rw s
       (record {
         bytes = b ∙ ap (sets entry 0) (sym a);
-        written = ap Ok (n ∙ sym (zero-add (length (refusal_line r line))) ∙ ap (λ (z : List ℕ). 0 + length z) (sym a));
+        written = ap Ok (n ∙ sym (zero-add (length (refusal_line r.refusal r.line))) ∙ ap (λ (z : List ℕ). 0 + length z) (sym a));
         fits = rw a (omega arith);
         transcript = refl;
         memory = refl;
@@ -160,7 +152,7 @@ module _ (S : Setting) (t : Transcript) (mem : List ℕ) where
       })
 
   pub not_header : (remaining : Remaining) → steps_remain remaining ≡ true → (remaining ≡ Header → ⊥) → remaining ≡ Steps
-  not_header (RefusalLine r line) h f = absurd (true≢false (sym h))
+  not_header (RefusalLine r) h f = absurd (true≢false (sym h))
   not_header Header h f = absurd (f refl)
   not_header Steps h f = refl
   not_header Nothing h f = absurd (true≢false (sym h))
@@ -233,13 +225,13 @@ module _ (S : Setting) (t : Transcript) (mem : List ℕ) where
       }
 
   -- by what remains
-  pub nothing_promised : (entry : List ℕ) → t.remaining ≡ Nothing → FillPromise S t mem entry (record { transcript = t; written = Ok 0 }) mem entry
-  nothing_promised entry e =
-      promised unrefused (rw e no_tests) mem entry entry _ (unfilled (length entry) entry (rw e (nothing_left (length entry))))
+  pub nothing_promised : (entry : List ℕ) (f : Filled) → t.remaining ≡ Nothing → f ≡ record { transcript = t; written = Ok 0 } → FillPromise S t mem entry f mem entry
+  nothing_promised entry f e g =
+      rw g (promised unrefused (rw e no_tests) mem entry entry _ (unfilled (length entry) entry (rw e (nothing_left (length entry)))))
 
-  pub line_promised : (entry exit : List ℕ) (f : Filled) (r : Refusal) (line : ℕ) → t.remaining ≡ RefusalLine r line
+  pub line_promised : (entry exit : List ℕ) (f : Filled) (r : SheetRefusal) → t.remaining ≡ RefusalLine r
       → PageFilled (page (length entry) t.remaining) unrefused t f mem entry exit 0 → FillPromise S t mem entry f mem exit
-  line_promised entry exit f r line e q = promised unrefused (rw e no_tests) mem entry exit f q
+  line_promised entry exit f r e q = promised unrefused (rw e no_tests) mem entry exit f q
 
   pub steps_promised : (mem_then entry exit : List ℕ) (f : Filled) → (t.remaining ≡ Header) ⊎ (t.remaining ≡ Steps)
       → PageFilled (page_by S (length entry) t mem (verdict (transcript_tests S t.budget (world_of t mem)))) (verdict (transcript_tests S t.budget (world_of t mem))) t f mem_then entry exit 0

@@ -1,7 +1,7 @@
 -- What a page says is what comes next, and where it stands is where the run is. Assumes nothing.
 use Rattle.std.proofs.Common.{ℕ, zero, suc, ◌+◌, ◌-◌, ◌≤◌, ◌<◌, true, ◌≡◌, refl, sym, ◌∙◌, ap, List, [], ◌∷◌, ◌++◌, append_assoc, append-nil, arith, ltb, length, ltb-true}
 use Rattle.base.proofs.Tests.{choose}
-use Rattle.base.specs.declared.refusal.Refusal.{Refusal}
+use Rattle.base.specs.declared.refusal.SheetRefusal.{SheetRefusal}
 use Rattle.definition.specs.Setting.{Setting}
 use Rattle.answers.specs.declared.answer.End.{End}
 use Rattle.answers.specs.declared.answer.End.TheVariants.{Spent}
@@ -161,15 +161,15 @@ module _ (S : Setting) where
       }
 
   -- the refusal's line
-  refusal_is : (room n left : ℕ) (w : World) (r : Refusal) (line : ℕ)
-      → PageIs room n left w (RefusalLine r line) (behind (refusal_line r line) (empty_page n w Nothing))
-  refusal_is room n left w r line =
+  refusal_is : (room n left : ℕ) (w : World) (r : SheetRefusal)
+      → PageIs room n left w (RefusalLine r) (behind (refusal_line r.refusal r.line) (empty_page n w Nothing))
+  refusal_is room n left w r =
       record {
         made = 0;
         rest = left;
         count = omega arith;
         parts = omega arith;
-        says = sym (append-nil (refusal_line r line)) ∙ sym (append-nil (refusal_line r line ++ []));
+        says = sym (append-nil (refusal_line r.refusal r.line)) ∙ sym (append-nil (refusal_line r.refusal r.line ++ []));
         stands = stands_still n w;
         most = omega arith;
         fewer = λ i j. omega arith;
@@ -178,9 +178,9 @@ module _ (S : Setting) where
   -- every page
   pub page_of_is : (room n left : ℕ) (w : World) (remaining : Remaining) → PageIs room n left w remaining (page_of S room n left w remaining)
   unfolding page_of
-  page_of_is room n left w (RefusalLine r line) =
-      choose (PageIs room n left w (RefusalLine r line)) (ltb room line_room) (λ h. still room n left w (RefusalLine r line) (λ i j. full room h i))
-      (λ h. refusal_is room n left w r line)
+  page_of_is room n left w (RefusalLine r) =
+      choose (PageIs room n left w (RefusalLine r)) (ltb room line_room) (λ h. still room n left w (RefusalLine r) (λ i j. full room h i))
+      (λ h. refusal_is room n left w r)
   page_of_is room n left w Header =
       choose (PageIs room n left w Header) (ltb room line_room) (λ h. still room n left w Header (λ i j. full room h i))
       (λ h. with_header room (room - length header_line) n left w _ (page_from_is (room - length header_line) n left w))

@@ -32,7 +32,7 @@ written_by (Err r) n = Err r
 module _ (S : Setting) where
   -- the tests: none where no step remains
   abbrev pub fill_tests : Transcript → List ℕ → Remaining → List (Test Refusal)
-  fill_tests t mem (RefusalLine r line) = []
+  fill_tests t mem (RefusalLine r) = []
   fill_tests t mem Header = transcript_tests S t.budget (world_of t mem)
   fill_tests t mem Steps = transcript_tests S t.budget (world_of t mem)
   fill_tests t mem Nothing = []

@@ -27,14 +27,14 @@ module _ (S : Setting) where
 
   -- what is still to be written
   abbrev pub remaining_text : ℕ → ℕ → World → Remaining → List ℕ
-  remaining_text n left w (RefusalLine r line) = refusal_line r line
+  remaining_text n left w (RefusalLine r) = refusal_line r.refusal r.line
   remaining_text n left w Header = header_line ++ steps_text n left w
   remaining_text n left w Steps = steps_text n left w
   remaining_text n left w Nothing = []
 
 -- how many lines remain, at most
 abbrev pub lines_left : ℕ → Remaining → ℕ
-lines_left left (RefusalLine r line) = 1
+lines_left left (RefusalLine r) = 1
 lines_left left Header = left + 2
 lines_left left Steps = left + 1
 lines_left left Nothing = 0
@@ -44,8 +44,8 @@ lines_left left Nothing = 0
 module _ (S : Setting) where
   -- what one call writes, by what remains
   unfoldable pub page_of : ℕ → ℕ → ℕ → World → Remaining → Page
-  page_of room n left w (RefusalLine r line) =
-      when ltb room line_room then empty_page n w (RefusalLine r line) else behind (refusal_line r line) (empty_page n w Nothing)
+  page_of room n left w (RefusalLine r) =
+      when ltb room line_room then empty_page n w (RefusalLine r) else behind (refusal_line r.refusal r.line) (empty_page n w Nothing)
   page_of room n left w Header =
       when ltb room line_room then empty_page n w Header else behind header_line (page_from S (room - length header_line) n left w)
   page_of room n left w Steps = page_from S room n left w

@@ -1,4 +1,5 @@
-// One call's page: the refusal's line, or the header and the lines of a run that is taken.
+// One call's page: the refusal's line, or the header and the lines of a run that is taken. Memory, layout, timetable and buffer go from function to
+// function apart, as the call was given them: each of them hands them on once.
 ghost use Rattle.std.specs.Prelude.{ℕ, ◌-◌, ◌≤◌, ◌≡◌, List, length, true};
 ghost use Rattle.base.specs.Verdict.{verdict, unrefused};
 ghost use Rattle.definition.specs.Setting.{Setting, setting_of};
@@ -11,7 +12,7 @@ ghost use Rattle.transcribe.specs.internal.Filled.{steps_remain, PageFilled};
 
 use crate::progress::{Filled, Transcript};
 use admission::verdict::judge_transcript;
-use base::refusal::Refusal;
+use base::refusal::SheetRefusal;
 use clock::timetable::Timetable;
 use layout::sections::Layout;
 use steplines::remaining::Remaining;
@@ -20,17 +21,15 @@ use storage::control::Control;
 use transcript::line::{header_line, refusal_line};
 
 // The line of a sheet's refusal.
-pub fn refusal_page(t: Transcript, out: &mut [u8], refusal: Refusal, line: u64) -> Filled
-    requires { t.remaining ≡ REFUSAL refusal line }
+#[tactic(auto, using(crate::proofs::FilledLaws::unfilled, crate::proofs::FilledLaws::refusal_full))]
+pub fn refusal_page(t: Transcript, out: &mut [u8], refused: SheetRefusal) -> Filled
+    requires { t.remaining ≡ REFUSAL refused }
     ensures { (mem : List ℕ) (S : Setting) → PageFilled (page_of S (length out.old) t.steps (t.budget - t.steps) (world_of t mem) t.remaining) unrefused t result mem out.old out.new 0 }
 {
     if out.len() < LINE_ROOM {
-        return Filled {
-            transcript: t,
-            written: Ok(0),
-        };
+        return Filled::empty(t);
     }
-    let k = refusal_line(out, refusal, line);
+    let k = refusal_line(out, refused);
     Filled {
         transcript: Transcript {
             remaining: Remaining::Nothing,
@@ -53,11 +52,10 @@ fn run_page(
     requires { start ≤ length out.old }
     ensures { PageFilled (page_from (setting_of layout timetable.entry.stamps.now) (length out.old - start) t.steps (t.budget - t.steps) (world_of t mem.old)) unrefused t result mem.new out.old out.new start }
 {
-    let state = t.state;
-    let mut registers = state.registers;
-    let mut saved = state.saved;
+    let mut registers = t.state.registers;
+    let mut saved = t.state.saved;
     let done = write_steps(
-        Control::of(state),
+        Control::of(t.state),
         &mut registers,
         &mut saved,
         mem,
@@ -80,6 +78,7 @@ fn run_page(
 }
 
 // The header, and the lines of the run behind it.
+#[tactic(auto, using(crate::proofs::FilledLaws::unfilled, crate::proofs::FilledLaws::header_full))]
 fn header_page(
     t: Transcript,
     mem: &mut [u8],
@@ -91,10 +90,7 @@ fn header_page(
     ensures { PageFilled (page_of (setting_of layout timetable.entry.stamps.now) (length out.old) t.steps (t.budget - t.steps) (world_of t mem.old) t.remaining) unrefused t result mem.new out.old out.new 0 }
 {
     if out.len() < LINE_ROOM {
-        return Filled {
-            transcript: t,
-            written: Ok(0),
-        };
+        return Filled::empty(t);
     }
     let start = header_line(out);
     run_page(t, mem, layout, timetable, out, start)
@@ -118,6 +114,7 @@ fn taken_page(
 }
 
 // The page of a run, if it is taken: its tests are made once.
+#[tactic(auto, using(crate::proofs::FilledLaws::refused_filled, crate::proofs::FilledLaws::taken_filled))]
 pub fn tested_page(
     t: Transcript,
     mem: &mut [u8],

@@ -1,4 +1,5 @@
 // Where a transcript stands: the machine, the steps made so far, the budget, and what is still to be written.
+ghost use Rattle.std.specs.Prelude.{◌≡◌, Ok};
 ghost use Rattle.definition.specs.Setting.{setting_of};
 ghost use Rattle.transcribe.specs.Promise.{FillPromise};
 
@@ -24,17 +25,26 @@ pub struct Filled {
     pub written: Result<usize, Refusal>,
 }
 
+impl Filled {
+    // A page on which there is nothing: the transcript stands where it stood.
+    pub(crate) fn empty(transcript: Transcript) -> Filled
+        ensures { result ≡ record { transcript = transcript; written = Ok 0 } }
+    {
+        Filled {
+            transcript,
+            written: Ok(0),
+        }
+    }
+}
+
 impl Transcript {
     // Continues the run, and fills the buffer with lines as long as there is room for one. A refusal writes nothing.
     pub fn fill(self, mem: &mut [u8], layout: Layout, stamps: &[u64], out: &mut [u8]) -> Filled
         ensures { FillPromise (setting_of layout stamps.now) self mem.old out.old result mem.new out.new }
     {
         match self.remaining {
-            Remaining::Nothing => Filled {
-                transcript: self,
-                written: Ok(0),
-            },
-            Remaining::RefusalLine(refusal, line) => refusal_page(self, out, refusal, line),
+            Remaining::Nothing => Filled::empty(self),
+            Remaining::RefusalLine(refused) => refusal_page(self, out, refused),
             Remaining::Header | Remaining::Steps => tested_page(self, mem, layout, stamps, out),
         }
     }

@@ -1,6 +1,6 @@
 -- Whether a run goes on, of its count and budget. No promise rests on it.
+use Rattle.std.specs.Prelude.{ℕ, Bool, leb, ltb, Option, None, Some}
 use Rattle.answers.specs.declared.answer.End.{End}
-use Rattle.std.specs.Prelude.{ℕ, Bool, true, false, leb, ltb, Option, None, Some}
 use Rattle.base.specs.Test.{when◌then◌else◌}
 use Rattle.base.specs.Limits.{last_clock}
 use Rattle.definition.specs.State.{World}
@@ -16,8 +16,3 @@ course halted clock steps budget =
 abbrev pub by_course : ℕ → World → Page → Option End → Page
 by_course n w further None = further
 by_course n w further (Some e) = end_page n w e
-
--- the run goes on
-abbrev pub goes_on : Option End → Bool
-goes_on None = true
-goes_on (Some e) = false

@@ -1,7 +1,7 @@
 -- What is written into a lent buffer, behind what is filled. No promise rests on it.
-use Rattle.answers.specs.declared.answer.End.{End}
-use Rattle.std.specs.Prelude.{ℕ, ◌+◌, ◌≤◌, List, [], ◌≡◌, length, Option, None, Some}
+use Rattle.std.specs.Prelude.{ℕ, ◌+◌, ◌≤◌, List, ◌≡◌, length}
 use Rattle.std.proofs.lemmas.List.Edits.{sets}
+use Rattle.answers.specs.declared.answer.End.{End}
 use Rattle.definition.specs.State.{World}
 use Rattle.steplines.specs.declared.remaining.Remaining.{Remaining}
 use Rattle.storage.specs.declared.control.Control.{Control}
@@ -19,24 +19,14 @@ pub record PageWritten (p : Page) (entry exit : List ℕ) (start filled steps : 
   pub world : w ≡ p.world
   pub rest : remaining ≡ p.remaining
 
--- the line of an end, none where the run goes on
-abbrev pub last_text : Option End → ℕ → ℕ → List ℕ
-last_text None steps clock = []
-last_text (Some e) steps clock = end_line e steps clock
-
--- what remains then
-abbrev pub last_remaining : Option End → Remaining
-last_remaining None = Steps
-last_remaining (Some e) = Nothing
-
 -- the line of an end that stands in the buffer behind what is filled
-pub record LastLine (going : Option End) (c : Control) (steps : ℕ) (entry exit : List ℕ) (filled : ℕ) (r : StepsWritten) : Type 0 where
-  pub bytes : exit ≡ sets entry filled (last_text going steps c.time.clock)
-  pub ends : r.filled ≡ filled + length (last_text going steps c.time.clock)
+pub record LastLine (end : End) (c : Control) (steps : ℕ) (entry exit : List ℕ) (filled : ℕ) (r : StepsWritten) : Type 0 where
+  pub bytes : exit ≡ sets entry filled (end_line end steps c.time.clock)
+  pub ends : r.filled ≡ filled + length (end_line end steps c.time.clock)
   pub fits : r.filled ≤ length entry
   pub control : r.control ≡ c
   pub count : r.steps ≡ steps
-  pub rest : r.remaining ≡ last_remaining going
+  pub rest : r.remaining ≡ Nothing
 
 -- what is left where no line is written
 abbrev pub no_line : Control → ℕ → ℕ → StepsWritten

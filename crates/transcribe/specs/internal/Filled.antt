@@ -1,7 +1,7 @@
 -- What a call fills of a lent buffer, from an index on. No promise rests on it.
-use Rattle.base.specs.declared.refusal.Refusal.{Refusal}
 use Rattle.std.specs.Prelude.{ℕ, ◌+◌, ◌≤◌, List, Bool, true, false, ◌≡◌, length, Result}
 use Rattle.std.proofs.lemmas.List.Edits.{sets}
+use Rattle.base.specs.declared.refusal.Refusal.{Refusal}
 use Rattle.steplines.specs.declared.remaining.Remaining.{Remaining}
 use Rattle.steplines.specs.declared.remaining.Remaining.TheVariants.{RefusalLine, Header, Steps, Nothing}
 use Rattle.transcribe.specs.declared.progress.Transcript.{Transcript}
@@ -11,7 +11,7 @@ use Rattle.transcribe.specs.Promise.{transcript_after, written_by}
 
 -- whether steps, or the end, are still to be written
 abbrev pub steps_remain : Remaining → Bool
-steps_remain (RefusalLine r line) = false
+steps_remain (RefusalLine r) = false
 steps_remain Header = true
 steps_remain Steps = true
 steps_remain Nothing = false

@@ -1,9 +1,6 @@
 use Rattle.std.proofs.Common.{rules, arith}
-use Rattle.explain.proofs.SentenceLaws.{length_line_label, explained}
+use Rattle.explain.proofs.SentenceLaws.{explained}
 use Rattle.explain.proofs.sentence.explanation.Goals as goal
-
-pub put_reason-requires : goal.put_reason-requires
-put_reason-requires c = omega (arith, length_line_label)
 
 pub returns-clause-sentence : goal.returns-clause-sentence
 returns-clause-sentence c =

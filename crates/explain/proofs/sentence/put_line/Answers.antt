@@ -1,14 +1,9 @@
 use Rattle.std.proofs.Common.{arith}
 use Rattle.std.proofs.lemmas.Bool.{ne_eqb}
-use Rattle.base.specs.Test.{when◌then◌else◌}
 use Rattle.base.proofs.Tests.{when_false}
-use Rattle.transcript.proofs.TranscriptLaws.{puts_none, puts_then, length_decimal_bytes}
+use Rattle.transcript.proofs.TranscriptLaws.{puts_then, length_decimal_bytes}
 use Rattle.explain.specs.Sentence.{line_label}
 use Rattle.explain.proofs.sentence.put_line.Goals as goal
-
-pub returns-then-line-eq-WHOLE_SHEET : goal.returns-then-line-eq-WHOLE_SHEET
-unfolding line_label when◌then◌else◌
-returns-then-line-eq-WHOLE_SHEET c = rw c.if-line-eq-WHOLE_SHEET.true (puts_none _)
 
 pub returns : goal.returns
 unfolding line_label

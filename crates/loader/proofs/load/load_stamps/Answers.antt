@@ -1,28 +1,24 @@
-use Rattle.std.proofs.Common.{refl, sym, ◌∙◌, ap, add-one, arith, rules, tests}
+use Rattle.std.proofs.Common.{sym, ◌∙◌, ap, add-one, arith, rules, tests}
 use Rattle.std.proofs.lemmas.List.{length_push}
 use Rattle.std.proofs.lemmas.List.Edits.{sets}
 use Rattle.std.proofs.lemmas.Iterator.Consumers.{YieldsList-turn, YieldsList-end}
-use Rattle.loader.specs.Setup.{pieces, sheet_stamps}
-use Rattle.loader.proofs.SetupLaws.{pieces_given, stamps_next, stamps_end, stamp_first}
+use Rattle.loader.specs.Setup.{pieces}
+use Rattle.loader.proofs.SetupLaws.{pieces_given, stamps_next, stamps_end}
 use Rattle.loader.proofs.load.load_stamps.Goals as goal
-
-pub loop-line-init : goal.loop-line-init
-unfolding sheet_stamps
-loop-line-init c = (omega arith, refl)
 
 pub loop-line-preserved-in-Some-stamp_of : goal.loop-line-preserved-in-Some-stamp_of
 loop-line-preserved-in-Some-stamp_of c =
     let l = c.loop-line in
     let t = YieldsList-turn (pieces_given _ c.args.sheet.now (cc) (cc) (cc) (λ x b q k. search (rules, tests))) l.yielded _ l.yielded_by _ _ c.in-Some.line c.in-Some.is c.next.ensures.steps in
     let n = length_push l.yielded c.in-Some.line in
-    (omega arith, l.invariant.1 ∙ ap (sets l.stamps l.count) (stamps_next _ _ _ t _ n ∙ stamp_first _ _ c.stamp_of.result c.stamp_of.ensures) ∙ simp (c.in-Some-stamp_of.is, c.put_at.ensures, add-one))
+    (omega arith, l.invariant.1 ∙ ap (sets l.stamps l.count) (stamps_next _ _ _ t _ n _ c.stamp_of.ensures) ∙ simp (c.in-Some-stamp_of.is, c.put_at.ensures, add-one))
 
 pub loop-line-preserved : goal.loop-line-preserved
 loop-line-preserved c =
     let l = c.loop-line in
     let t = YieldsList-turn (pieces_given _ c.args.sheet.now (cc) (cc) (cc) (λ x b q k. search (rules, tests))) l.yielded _ l.yielded_by _ _ c.in-Some.line c.in-Some.is c.next.ensures.steps in
     let n = length_push l.yielded c.in-Some.line in
-    (omega arith, l.invariant.1 ∙ ap (sets l.stamps l.count) (stamps_next _ _ _ t _ n ∙ stamp_first _ _ c.stamp_of.result c.stamp_of.ensures) ∙ simp c.in_default.is)
+    (omega arith, l.invariant.1 ∙ ap (sets l.stamps l.count) (stamps_next _ _ _ t _ n _ c.stamp_of.ensures) ∙ simp c.in_default.is)
 
 pub returns : goal.returns
 returns c =
