@@ -1,4 +1,5 @@
-// The machine for programs in other languages: exported functions over lent numbers and bytes.
+// The machine for programs in other languages: exported functions over lent numbers and bytes. Each repeats the head of the function that it
+// calls: an archive has the exports of its own crate alone, and C lends numbers and bytes apart.
 #![tactic(auto)]
 
 pub mod access;

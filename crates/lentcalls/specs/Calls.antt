@@ -1,8 +1,8 @@
 -- Start, step and run on what a caller lends: the machine's own calls, on the machine and the layout of the caller's numbers.
+use Rattle.std.specs.Prelude.{ℕ, ◌≡◌, List, Result}
 use Rattle.answers.specs.declared.answer.Stopped.{Stopped}
 use Rattle.answers.specs.declared.answer.Outcome.{Outcome}
 use Rattle.base.specs.declared.refusal.Refusal.{Refusal}
-use Rattle.std.specs.Prelude.{ℕ, ◌≡◌, List, Result}
 use Rattle.definition.specs.Setting.{setting_of}
 use Rattle.definition.specs.State.{world}
 use Rattle.definition.specs.Answers.{start_refusal, step_refusal, run_refusal, step_kind, step_cause, run_end, run_steps}

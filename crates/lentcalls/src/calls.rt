@@ -1,10 +1,11 @@
 // Start, step and run. Each answers 0, or the number of the refusal, which leaves all that is lent as it came.
+// A machine's numbers and its memory are lent apart, and in no struct: the C interface has them so.
 ghost use Rattle.std.specs.Prelude.{◌≡◌};
 ghost use Rattle.definition.specs.Answers.{cause_of};
 ghost use Rattle.lentstate.specs.State.{numbers};
 ghost use Rattle.lentcalls.specs.Calls.{StartReturns, StepReturns, RunReturns};
 
-use answers::answer::{Outcome, Stopped};
+use answers::answer::Outcome;
 use layout::sections::Layout;
 use lentstate::state::{control_of, hand_back, hand_control};
 use machine::calls::{Machine, run_in_place, step_in_place};
@@ -20,6 +21,7 @@ fn cause_of(outcome: Outcome) -> u8
 }
 
 // The start state of a memory.
+#[tactic(auto, using(base::proofs::Tests::choices, base::proofs::Refusals::number_not_zero), unfolding(base::specs::Kept::unless_refused))]
 pub fn start_lent(
     registers: &mut [u16; 16],
     saved: &mut [u16; 16],
@@ -29,19 +31,18 @@ pub fn start_lent(
 ) -> u8
     ensures { StartReturns mem.now (numbers registers.old saved.old control.old time.old) (numbers registers.new saved.new control.new time.new) result }
 {
-    let done = Machine::start(mem);
-    let m = done.machine.0;
-    let answer = done.answer;
-    match answer {
+    let started = Machine::start(mem);
+    match started.answer {
         Err(refusal) => u8::from(refusal),
         Ok(()) => {
-            hand_back(m, registers, saved, control, time);
+            hand_back(started.machine.0, registers, saved, control, time);
             0
         }
     }
 }
 
 // One step: its kind, as the bench's letter, and for a reset the number of its cause, else 0.
+#[tactic(auto, using(base::proofs::Tests::choices, base::proofs::Refusals::number_not_zero, lentstate::proofs::LentLaws::lent_machine, lentstate::proofs::LentLaws::lent_numbers), unfolding(base::specs::Kept::unless_refused, crate::specs::Calls::step_on))]
 pub fn step_lent(
     registers: &mut [u16; 16],
     saved: &mut [u16; 16],
@@ -56,13 +57,11 @@ pub fn step_lent(
     ensures { StepReturns mem.old layout.now stamps.now (numbers registers.old saved.old control.old time.old) (numbers registers.new saved.new control.new time.new) mem.new kind.old kind.new cause.old cause.new result }
 {
     let rest = control_of(*control, *time);
-    let done = step_in_place(rest, registers, saved, mem, Layout::from(*layout), stamps);
-    let next = done.machine;
-    let answer = done.answer;
-    match answer {
+    let stepped = step_in_place(rest, registers, saved, mem, Layout::from(*layout), stamps);
+    match stepped.answer {
         Err(refusal) => u8::from(refusal),
         Ok(outcome) => {
-            hand_control(next, control, time);
+            hand_control(stepped.machine, control, time);
             *kind = outcome.letter();
             *cause = cause_of(outcome);
             0
@@ -71,6 +70,7 @@ pub fn step_lent(
 }
 
 // Many steps: why it stopped, as the bench's letter, and the number of steps.
+#[tactic(auto, using(base::proofs::Tests::choices, base::proofs::Refusals::number_not_zero, lentstate::proofs::LentLaws::lent_machine, lentstate::proofs::LentLaws::lent_numbers), unfolding(base::specs::Kept::unless_refused, crate::specs::Calls::run_on))]
 pub fn run_lent(
     registers: &mut [u16; 16],
     saved: &mut [u16; 16],
@@ -86,7 +86,7 @@ pub fn run_lent(
     ensures { RunReturns mem.old layout.now stamps.now budget (numbers registers.old saved.old control.old time.old) (numbers registers.new saved.new control.new time.new) mem.new end.old end.new steps.old steps.new result }
 {
     let rest = control_of(*control, *time);
-    let done = run_in_place(
+    let ran = run_in_place(
         rest,
         registers,
         saved,
@@ -95,19 +95,12 @@ pub fn run_lent(
         stamps,
         budget,
     );
-    let last = done.machine;
-    let answer = done.answer;
-    match answer {
+    match ran.answer {
         Err(refusal) => u8::from(refusal),
-        Ok(
-            Stopped {
-                end: ending,
-                steps: made,
-            },
-        ) => {
-            hand_control(last, control, time);
-            *end = ending.letter();
-            *steps = made;
+        Ok(stopped) => {
+            hand_control(ran.machine, control, time);
+            *end = stopped.end.letter();
+            *steps = stopped.steps;
             0
         }
     }

@@ -2,6 +2,7 @@
 ghost use Rattle.lentcalls.specs.Laws.{OddFlagRefused};
 
 // Where `halted` or `held` is neither 0 nor 1, step and run refuse the numbers.
+#[tactic(auto, using(crate::proofs::FlagLaws::odd_flag_refused))]
 pub fn odd_flag_refused()
     ensures { OddFlagRefused }
 {}

@@ -1,7 +1,7 @@
 -- One page of a run's transcript on what a caller lends: the definition's page, of the transcript that the caller's numbers tell.
-use Rattle.base.specs.declared.refusal.Refusal.{Refusal}
 use Rattle.std.specs.Prelude.{ℕ, ◌≡◌, List, eqb, length, Result}
 use Rattle.std.proofs.lemmas.List.Edits.{sets}
+use Rattle.base.specs.declared.refusal.Refusal.{Refusal}
 use Rattle.base.specs.Test.{when◌then◌else◌}
 use Rattle.base.specs.Verdict.{verdict, refused_by}
 use Rattle.definition.specs.Setting.{setting_of}
@@ -23,7 +23,7 @@ abbrev pub stage_number : Remaining → ℕ
 stage_number Header = 0
 stage_number Steps = 1
 stage_number Nothing = 2
-stage_number (RefusalLine r line) = 3
+stage_number (RefusalLine r) = 3
 
 -- what is lent for a page: the machine's numbers and its memory, the stage, the steps made so far, the buffer, the count of bytes written
 pub record PageRoom : Type 0 where

@@ -1,4 +1,5 @@
 // A run's transcript, page by page. The call answers 0, or the number of the refusal, which leaves all that is lent as it came.
+// What is lent comes apart, and in no struct: the C interface has it so.
 ghost use Rattle.std.specs.Prelude.{◌≡◌};
 ghost use Rattle.lentstate.specs.State.{numbers};
 ghost use Rattle.lentpages.specs.Page.{stage_of, stage_number, page_room, TranscribeReturns};
@@ -8,8 +9,8 @@ use lentstate::state::{hand_back, machine_of};
 use steplines::remaining::Remaining;
 use transcribe::progress::Transcript;
 
-// What a stage's number says is still to be written: 0 the header and what follows it, 1 steps and the end, else nothing. The C interface
-// has numbers; no `From`, which would stand in the crate of `Remaining`.
+// What a stage's number says is still to be written: 0 the header and what follows it, 1 steps and the end, else nothing. The number
+// is the C interface's, of which the crate of `Remaining` knows nothing: no `From`.
 #[tactic(auto, using(base::proofs::Tests::choices), unfolding(crate::specs::Page::stage_of))]
 fn stage_of(n: u8) -> Remaining
     ensures { result ≡ stage_of n }
@@ -21,7 +22,7 @@ fn stage_of(n: u8) -> Remaining
     }
 }
 
-// The number of what is still to be written.
+// The number of what is still to be written, as the C interface hands it back: a function and no `From`, like `stage_of`.
 fn stage_number(remaining: Remaining) -> u8
     ensures { result ≡ stage_number remaining }
 {
@@ -29,12 +30,13 @@ fn stage_number(remaining: Remaining) -> u8
         Remaining::Header => 0,
         Remaining::Steps => 1,
         Remaining::Nothing => 2,
-        Remaining::RefusalLine(_, _) => 3,
+        Remaining::RefusalLine(_) => 3,
     }
 }
 
 // Continues a run and fills the buffer with the next lines of its transcript, as long as there is room for one. The stage and the steps made
 // so far tell where it stands.
+#[tactic(auto, using(base::proofs::Tests::choices, base::proofs::Refusals::number_not_zero), unfolding(base::specs::Kept::unless_refused, crate::specs::Page::page_verdict, crate::specs::Page::page_on, crate::specs::Page::transcript_of))]
 pub fn transcribe_lent(
     registers: &mut [u16; 16],
     saved: &mut [u16; 16],

@@ -1,4 +1,4 @@
-// The sheet reader.
+// The sheet reader. What is lent comes apart, as the C interface has it.
 ghost use Rattle.lentpages.specs.Setup.{setup_room, SheetReturns};
 
 use base::limits::{MEMORY_BYTES, MOST_STAMPS};
@@ -6,6 +6,7 @@ use loader::load::{load_memory, load_stamps};
 use sheet::reader::read_sheet;
 
 // What a sheet sets up: memory, stamps and their count, layout, budget. A refusal alters only `line`, which tells its line.
+#[tactic(auto, using(base::proofs::Tests::choices, base::proofs::Refusals::number_not_zero), unfolding(base::specs::Kept::unless_refused))]
 pub fn read_sheet_lent(
     text: &[u8],
     mem: &mut [u8; MEMORY_BYTES],
@@ -26,7 +27,7 @@ pub fn read_sheet_lent(
             load_memory(mem, text);
             load_stamps(stamps, text);
             *layout = setup.layout.into();
-            *count = setup.stamps;
+            *count = setup.stamps as u64;
             *budget = setup.budget;
             0
         }

@@ -1,4 +1,5 @@
-// The machine as numbers that a caller lends. Functions and no `From`: of a stamp, a time or a visit neither side is a type of this crate.
+// The machine as numbers that a caller lends, apart and in no struct, as the C interface has them. Functions and no `From`: the numbers are the C
+// interface's, of which the crates of stamp, time and visit know nothing.
 ghost use Rattle.std.specs.Prelude.{◌≡◌};
 ghost use Rattle.lentstate.specs.State.{stamp_of, stamp_number, time_of, time_fields, odd_flag, context_of, control_fields, numbers, machine_of, numbers_of};
 ghost use Rattle.lentstate.specs.internal.Control.{control_from};
@@ -15,7 +16,7 @@ fn stamp_of(n: u64) -> Option<u64>
     (n != 0).then_some(n)
 }
 
-// The number of a stamp: 0 is none.
+// The number of a stamp: 0 is none, in the numbers of the C interface.
 fn stamp_number(stamp: Option<u64>) -> u64
     ensures { result ≡ stamp_number stamp }
 {
@@ -55,7 +56,7 @@ fn has_odd_flag(fields: [u16; 5]) -> bool
     fields[1] > 1 || fields[2] > 1
 }
 
-// The visit; where a flag is odd, one of no frame.
+// The visit that the numbers of the C interface tell: the flag `held` says whether there is one. An odd flag gives a visit of no frame.
 #[tactic(auto, using(base::proofs::Tests::choices), unfolding(crate::specs::State::context_of))]
 fn context_of(fields: [u16; 5]) -> Option<SavedContext>
     ensures { result ≡ context_of fields }
@@ -136,6 +137,7 @@ pub fn hand_back(
 )
     ensures { numbers registers.new saved.new control.new time.new ≡ numbers_of m }
 {
+    // Through two locals: of a field that is copied to what is lent the check finds no proof.
     let current = m.registers;
     let held = m.saved;
     *registers = current;

@@ -1,11 +1,11 @@
 -- Rows by their indices, and instructions by their four numbers. Assumes nothing.
 use Rattle.std.proofs.Common.{◌≡◌, refl, sym, ◌∙◌, ap, true, false, ℕ, ◌<◌, arith, ltb, Bor, Option, option_copied, None, Some, Err}
 use Rattle.std.proofs.lemmas.Option.{slice_get-get_or, slice_get_read}
-use Rattle.std.proofs.lemmas.Bool.{ltb-true}
+use Rattle.std.proofs.lemmas.Bool.{ltb-true, false_from_ne_true}
 use Rattle.std.specs.Slice.{IsItemAt}
 use Rattle.base.specs.Test.{when◌then◌else◌}
 use Rattle.base.specs.declared.refusal.Refusal.TheVariants.{Word}
-use Rattle.base.proofs.Tests.{cases, each, never, when_true, when_false}
+use Rattle.base.proofs.Tests.{cases, each, when_true, when_false}
 use Rattle.rows.specs.declared.row.Operation.TheVariants.{Add, Sub, Cmp, And}
 use Rattle.rows.specs.declared.row.Row.{Row}
 use Rattle.rows.specs.declared.row.Row.TheVariants.{Hlt as HLT, In as IN, Out as OUT, Jz as JZ, Reti as RETI, Nop as NOP, Jmp as JMP, Mov as MOV, Load as LOAD, Store as STORE, Immediate as IMMEDIATE, Compute as COMPUTE, Not as NOT}
@@ -96,7 +96,7 @@ module _ (e : Encoding) where
 
   no_words : (encodable e ≡ true → ⊥) → written e ≡ Err Word
   unfolding written
-  no_words h = when_false _ _ _ (never _ h)
+  no_words h = when_false _ _ _ (false_from_ne_true _ h)
 
   no_source : (e.source < 16 → ⊥) → written e ≡ Err Word
   no_source h = no_words (λ f. h (digits f).0)

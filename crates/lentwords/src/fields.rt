@@ -29,13 +29,15 @@ const ROWS: [Row; 16] = [
 ];
 
 // The row at an index of the table, from 0.
+#[tactic(auto, using(crate::proofs::RowLaws::copied_row))]
 fn row_at(n: u16) -> Option<Row>
     ensures { result ≡ row_at n }
 {
-    ROWS.get(n as usize).copied()
+    ROWS.get(usize::from(n)).copied()
 }
 
-// The index of a row, a number of the C interface. `Row` and `u16` are of other crates, so it is no `From`.
+// The index of a row: a number of the C interface, of which the crate of `Row` knows nothing, so it is no `From`. A match, as the definition has
+// it: a search of `ROWS` would have to say what it answers where it finds none.
 fn row_index(row: Row) -> u16
     ensures { result ≡ row_index row }
 {
@@ -59,7 +61,7 @@ fn row_index(row: Row) -> u16
     }
 }
 
-// The four numbers of an instruction.
+// The four numbers of an instruction, for the C interface.
 #[tactic(auto, unfolding(crate::specs::Fields::fields_of))]
 pub fn fields_of(i: Instruction) -> [u16; 4]
     ensures { result ≡ fields_of i }
@@ -67,13 +69,13 @@ pub fn fields_of(i: Instruction) -> [u16; 4]
     let e = Encoding::from(i);
     [
         row_index(e.row),
-        e.source as u16,
-        e.destination as u16,
+        u16::from(e.source),
+        u16::from(e.destination),
         e.word,
     ]
 }
 
-// The words of four numbers, or refusal 9.
+// The words of four numbers of the C interface, or refusal 9.
 #[tactic(auto, unfolding(crate::specs::Fields::writing_of))]
 pub fn write_fields(fields: [u16; 4]) -> Result<Words, Refusal>
     ensures { result ≡ writing_of fields }

@@ -27,7 +27,8 @@ pub fn read_lent(first: u16, second: u16, fields: &mut [u16; 4], length: &mut u8
     }
 }
 
-// Exactly the words of an instruction and how many they are, or refusal 9. The second word is left alone where there is none.
+// Exactly the words of an instruction and how many they are, or refusal 9. The second word is left alone where there is none. The C interface has
+// numbers: what is lent, and an answer.
 #[tactic(auto, using(base::proofs::Refusals::number_not_zero), unfolding(base::specs::Kept::unless_refused, base::specs::Test::all))]
 pub fn write_lent(fields: &[u16; 4], first: &mut u16, second: &mut u16, length: &mut u8) -> u8
     ensures number { result ≡ writing_refusal (writing_of fields.now) }
