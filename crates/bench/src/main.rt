@@ -28,8 +28,8 @@ fn complain(errors: &mut impl Write, text: &[u8]) {
 
 // On standard error what is wrong with a sheet, where it is refused.
 fn explain_refusal(errors: &mut impl Write, page: &mut [u8], text: &[u8], remaining: Remaining) {
-    if let Remaining::RefusalLine(refusal, line) = remaining {
-        let n = explanation(page, text, refusal, line);
+    if let Remaining::RefusalLine(refused) = remaining {
+        let n = explanation(page, text, refused);
         if let Some(sentence) = page.get(..n) {
             complain(errors, sentence);
         }

@@ -58,7 +58,7 @@ pub fn start(out: &mut impl Write, w: &mut World) -> io::Result<()> {
     }
 }
 
-// Step.
+// Step. What is lent is borrowed here and in `run`: a method of `World` that lends both parts was tried, and its proof was not found.
 pub fn step(out: &mut impl Write, w: &mut World) -> io::Result<()> {
     let Some(mem) = w.memory.get_mut(..w.bytes) else {
         return print::unknown(out);

@@ -14,7 +14,7 @@ fn registers(out: &mut impl Write, words: [u16; 16]) -> io::Result<()> {
     Ok(())
 }
 
-// A clock value, or none.
+// A clock value, or none: printed as the other fields are, and by no `Display` of an option, which is the library's.
 fn stamp(out: &mut impl Write, s: Option<u64>) -> io::Result<()> {
     match s {
         None => print::text(out, b" none"),

@@ -1,6 +1,7 @@
 // What a line of the script asks for. Each letter has its number of fields, and how large they may be; no other line is a command.
 use crate::line::Line;
 use crate::world::WORLD_BYTES;
+use definition::state::SavedContext;
 
 // A command. Of words and stamps, the numbers stay in the line.
 #[derive(Clone, Copy)]
@@ -27,8 +28,7 @@ pub enum Part {
     Clock(u64),
     Slot(Option<u64>),
     Alarm(Option<u64>),
-    Held { previous: u16, age: u8 },
-    Unheld,
+    Context(Option<SavedContext>),
     Halted(bool),
 }
 
@@ -85,11 +85,11 @@ impl Part {
             (b'q', []) => Some(Part::Slot(None)),
             (b'D', &[s]) => Some(Part::Alarm(Some(s))),
             (b'd', []) => Some(Part::Alarm(None)),
-            (b'H', &[previous, age]) => Some(Part::Held {
+            (b'H', &[previous, age]) => Some(Part::Context(Some(SavedContext {
                 previous: word(previous)?,
                 age: byte(age)?,
-            }),
-            (b'h', []) => Some(Part::Unheld),
+            }))),
+            (b'h', []) => Some(Part::Context(None)),
             (b'Z', []) => Some(Part::Halted(true)),
             (b'z', []) => Some(Part::Halted(false)),
             _ => None,

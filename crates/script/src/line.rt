@@ -7,7 +7,8 @@ const MOST_FIELDS: usize = 8;
 // A field has at most sixteen digits.
 const MOST_DIGITS: usize = 16;
 
-// The letter, and the fields: the first `count` of the numbers.
+// The letter, and the fields: the first `count` of the numbers. A count and no Vec: that takes an
+// allocator along and may fail at each field.
 #[derive(Clone, Copy)]
 pub struct Line {
     pub letter: u8,
@@ -46,6 +47,7 @@ pub fn read(text: &[u8]) -> Option<Line>
         return None;
     };
     let mut numbers = [0; MOST_FIELDS];
+    // Counted by hand: the count is a part of the answer, and one field too many is refused.
     let mut count = 0;
     for piece in pieces {
         *numbers.get_mut(count)? = number(piece)?;

@@ -4,7 +4,7 @@ ghost use Rattle.std.specs.Prelude.{◌≡◌, ◌+◌, length, IfSome};
 use crate::command::Part;
 use crate::memory;
 use base::limits::MEMORY_BYTES;
-use definition::state::{SavedContext, State, Time};
+use definition::state::{State, Time};
 use layout::sections::Layout;
 use storage::registers::set_register;
 
@@ -14,7 +14,8 @@ pub const WORLD_BYTES: usize = 65538;
 // Four stamps more than a timetable has.
 const WORLD_STAMPS: usize = 4100;
 
-// The world of a call, which is lent the first of the bytes and of the stamps.
+// The world of a call, which is lent the first `bytes` of the memory and the first `stamps` of the times. Counts and no Vec: that takes an
+// allocator along and may fail at each put.
 #[derive(Drop)]
 pub struct World {
     pub state: State,
@@ -64,12 +65,13 @@ impl World {
             Part::Clock(n) => state.time.clock = n,
             Part::Slot(s) => state.time.slot = s,
             Part::Alarm(s) => state.time.alarm = s,
-            Part::Held { previous, age } => {
-                // The held visit's registers are 0 but for GIE.
-                state.context = Some(SavedContext { previous, age });
-                state.saved = set_register([0; 16], 2, 8);
+            Part::Context(context) => {
+                state.context = context;
+                if context.is_some() {
+                    // The held visit's registers are 0 but for GIE.
+                    state.saved = set_register([0; 16], 2, 8);
+                }
             }
-            Part::Unheld => state.context = None,
             Part::Halted(halted) => state.halted = halted,
         }
     }

@@ -18,6 +18,7 @@ fn sheet_layout() -> Layout {
     Layout::from([0x8000, 0x8008, 0x8100, 0x8104, 0x4500])
 }
 
+// The letter of an answer, printed as the other fields are, and by no `Display`: the types are another crate's.
 fn show_answer(out: &mut impl Write, answer: Result<bool, Refusal>) -> io::Result<()> {
     match answer {
         Ok(true) => print::text(out, b"y"),

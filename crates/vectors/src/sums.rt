@@ -15,6 +15,7 @@ const OPERATIONS: [Operation; 4] = [
     Operation::And,
 ];
 
+// Its word. Bytes and no `Display`: the operation is another crate's, and what prints fields takes bytes.
 fn name(o: Operation) -> &'static [u8] {
     match o {
         Operation::Add => b"ADD",

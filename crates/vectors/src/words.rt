@@ -21,8 +21,8 @@ const SECONDS: [u16; 4] = [0x0000, 0xffff, 0xfffe, 0x0001];
 fn show_parts(out: &mut impl Write, i: Instruction) -> io::Result<()> {
     let e = Encoding::from(i);
     print::space_decimal(out, i.kind() as u64)?;
-    print::space_decimal(out, e.source as u64)?;
-    print::space_decimal(out, e.destination as u64)?;
+    print::space_decimal(out, u64::from(e.source))?;
+    print::space_decimal(out, u64::from(e.destination))?;
     print::space_word(out, e.word)
 }
 
@@ -44,8 +44,8 @@ fn show_read(out: &mut impl Write, first: u16, second: u16) -> io::Result<()> {
     match Instruction::read(first, second) {
         Ok(decoded) => {
             show_parts(out, decoded.instruction)?;
-            print::space_decimal(out, decoded.length as u64)?;
-            print::space_decimal(out, decoded.instruction.cycles() as u64)?;
+            print::space_decimal(out, u64::from(decoded.length))?;
+            print::space_decimal(out, u64::from(decoded.instruction.cycles()))?;
             show_written(out, decoded.instruction.write())?;
         }
         Err(r) => print::refusal(out, u8::from(r))?,
