@@ -36,7 +36,7 @@ pub fn after_fast(control: Control, progress: FastProgress, saved: &mut [u16; 16
     }
 }
 
-// Where nothing is held, the saved copy is handed back zero.
+// Where nothing is held, the saved copy is handed back zero: in place what `saved_for` gives by value.
 fn clear_unheld(context: Option<SavedContext>, saved: &mut [u16; 16])
     ensures { saved.new ≡ saved_for context saved.old }
 {

@@ -1,4 +1,4 @@
-// The memory and the timetable that a sheet sets up.
+// The memory and the timetable that a sheet sets up: two calls, since the two are lent apart.
 ghost use Rattle.std.specs.Prelude.{◌≡◌, [], length, set, option_to_list};
 ghost use Rattle.std.proofs.lemmas.List.Edits.{sets};
 ghost use Rattle.base.specs.Limits.{memory_bytes};

@@ -25,7 +25,7 @@ fn run_line(out: &mut [u8], setup: Setup, mem: &mut [u8], stamps: &[u64]) -> usi
     }
 }
 
-// The last line that the bench prints for a sheet, put into what is lent; its length.
+// The last line that the bench prints for a sheet, put into what is lent; its length. Memory and stamps are lent apart, as the loader takes them.
 fn last_line(
     out: &mut [u8],
     text: &[u8],

@@ -27,6 +27,7 @@ fn show_answer(out: &mut impl Write, answer: Result<bool, Refusal>) -> io::Resul
     }
 }
 
+// The letter of a right, printed like that of an answer.
 fn show_right(out: &mut impl Write, right: Right) -> io::Result<()> {
     match right {
         Right::Execute => print::text(out, b" E "),
