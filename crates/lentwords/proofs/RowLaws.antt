@@ -5,10 +5,9 @@ use Rattle.std.proofs.lemmas.Bool.{ltb-true, false_from_ne_true}
 use Rattle.std.specs.Slice.{IsItemAt}
 use Rattle.base.specs.Test.{when◌then◌else◌}
 use Rattle.base.specs.declared.refusal.Refusal.TheVariants.{Word}
-use Rattle.base.proofs.Tests.{cases, each, when_true, when_false}
-use Rattle.rows.specs.declared.row.Operation.TheVariants.{Add, Sub, Cmp, And}
+use Rattle.base.proofs.Tests.{cases, each, when_true, when_false, choices}
 use Rattle.rows.specs.declared.row.Row.{Row}
-use Rattle.rows.specs.declared.row.Row.TheVariants.{Hlt as HLT, In as IN, Out as OUT, Jz as JZ, Reti as RETI, Nop as NOP, Jmp as JMP, Mov as MOV, Load as LOAD, Store as STORE, Immediate as IMMEDIATE, Compute as COMPUTE, Not as NOT}
+use Rattle.rows.specs.declared.row.Row.TheVariants.{Hlt as HLT}
 use Rattle.rows.specs.declared.row.Encoding.{Encoding}
 use Rattle.rows.specs.Table.{rows}
 use Rattle.rows.specs.Words.{encodable, written}
@@ -21,23 +20,8 @@ use Rattle.lentwords.specs.Fields.{row_at, row_index, fields_of, writing_of}
 use Rattle.lentwords.specs.Laws.{RowAtIndex, FieldsWritten}
 
 row_at_lem : (r : Row) → row_at (row_index r) ≡ Some r
-unfolding row_at when◌then◌else◌
-row_at_lem HLT = refl
-row_at_lem IN = refl
-row_at_lem OUT = refl
-row_at_lem JZ = refl
-row_at_lem RETI = refl
-row_at_lem NOP = refl
-row_at_lem JMP = refl
-row_at_lem MOV = refl
-row_at_lem LOAD = refl
-row_at_lem STORE = refl
-row_at_lem IMMEDIATE = refl
-row_at_lem (COMPUTE Add) = refl
-row_at_lem (COMPUTE Sub) = refl
-row_at_lem (COMPUTE Cmp) = refl
-row_at_lem (COMPUTE And) = refl
-row_at_lem NOT = refl
+unfolding row_at
+row_at_lem r = grind (arith, choices)
 
 -- the row at an index, as `get` and `copied` find it in the list
 pub copied_row : (n : ℕ) (r : Option (Bor Row)) → IsItemAt rows n r → option_copied r ≡ row_at n
