@@ -13,7 +13,7 @@ use base::place::put_at;
 use base::refusal::SheetRefusal;
 
 // The digits of a decimal, from the last one back: those at the end of the text that is lent. By hand: a line is
-// written at every step, and by the library's write! of its two decimals it takes some 54 instructions more than its 637, where no row of the benchmark
+// written at every step, and by the library's write! of its two decimals it takes some 54 instructions more than its 626, where no row of the benchmark
 // may be slower than before.
 #[tactic(auto, using(crate::proofs::TranscriptLaws::turns), unfolding(crate::specs::Transcript::decimal_bytes))]
 pub fn decimal_digits<'a>(n: u64, text: &'a mut [u8; 20]) -> &'a [u8]
