@@ -9,7 +9,7 @@ memory_bytes = 65536
 abbrev pub last_clock : ℕ
 last_clock = 0x4000_0000_0000_0000
 
--- a timetable has at most 4,096 stamps
+-- a timetable has at most 4,096 stamps, and a trace as many records
 abbrev pub most_stamps : ℕ
 most_stamps = 4096
 

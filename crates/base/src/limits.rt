@@ -6,7 +6,7 @@ pub const MEMORY_BYTES: usize = 65536;
 // The last stamp, and the last clock value from which a machine steps: 2^62.
 pub const LAST_CLOCK: u64 = 0x4000_0000_0000_0000;
 
-// A timetable has at most 4,096 stamps.
+// A timetable has at most 4,096 stamps, and a trace as many records.
 pub const MOST_STAMPS: usize = 4096;
 
 // A run has a budget of at most 1,000,000 steps.

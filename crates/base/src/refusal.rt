@@ -1,8 +1,8 @@
-// The numbered refusals of document 01, 'Callers'.
+// The numbered refusals of document 01, 'Callers', and of the change requests to it.
 ghost use Rattle.std.specs.Prelude.{◌≡◌};
 ghost use Rattle.base.specs.Refusal.{refusal_number};
 
-// What a call can be refused for, by document 01's word for it.
+// What a call can be refused for, by the papers' word for it.
 #[derive(Clone, Copy, Debug, PartialEq, Eq)]
 pub enum Refusal {
     Map,
@@ -14,6 +14,7 @@ pub enum Refusal {
     Line,
     Sheet,
     Word,
+    Trace,
 }
 
 // Why a sheet is refused: the first refusal, and the line that it is for. Line 0 is the sheet as a whole; no Option, since document 01 prints it.
@@ -32,7 +33,7 @@ impl SheetRefusal {
     }
 }
 
-// The refusal's number in document 01's table.
+// The refusal's number in the papers.
 impl From<Refusal> for u8 {
     ghost from_gives = { λ refusal n. n ≡ refusal_number refusal };
 
@@ -47,6 +48,7 @@ impl From<Refusal> for u8 {
             Refusal::Line => 7,
             Refusal::Sheet => 8,
             Refusal::Word => 9,
+            Refusal::Trace => 10,
         }
     }
 }
