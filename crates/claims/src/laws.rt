@@ -1,10 +1,40 @@
 // What is claimed of the machine: each claim is the contract of a function with nothing to do.
-ghost use Rattle.definition.specs.Laws.{PassAdds, StepCycles, HaltedStays, FramedAtStart, FrameKept, LengthKept, OnlyDistanceOrClock, GieKeptInside, NothingDueAtStart, NothingDueKept, AgeAtMostFive, WritesOwnSide, TouchesOwnSide, TwelveInside, TwelveInReturn, PaddedByStamp, PaddingSum, BarredUnread, NoReentry, SecondElsewhereUnread, PrivilegedInside, ChainsWhateverGie, ResetAfterStore, RunCounts, RunEnds, RunAdds, RefusalsInOrder, RefusedUntouched, OutsideLocal, InsideConfined};
+ghost use Rattle.definition.specs.Laws.{PassAdds, EmptyTrace, RecordsAreRequests, RecordsCountOnce, LastRecordRead, NoRecordYet, StepCycles, HaltedStays, FramedAtStart, FrameKept, LengthKept, OnlyDistanceOrClock, GieKeptInside, NothingDueAtStart, NothingDueKept, AgeAtMostFive, WritesOwnSide, TouchesOwnSide, TwelveInside, TwelveInReturn, PaddedByStamp, PaddingSum, BarredUnread, NoReentry, SecondElsewhereUnread, PrivilegedInside, ChainsWhateverGie, ResetAfterStore, RunCounts, RunEnds, RunAdds, RefusalsInOrder, RefusedUntouched, OutsideLocal, InsideConfined};
 
 // Passing n and then m cycles is passing n + m.
 #[tactic(auto, using(definition::proofs::time::PassLaws::pass_adds))]
 pub fn pass_adds()
     ensures { PassAdds }
+{}
+
+// Without a record requests and device are those of the machine that knew no trace.
+#[tactic(auto, using(definition::proofs::time::TraceLaws::empty_trace))]
+pub fn empty_trace()
+    ensures { EmptyTrace }
+{}
+
+// A record is a request as a stamp of the timetable is.
+#[tactic(auto, using(definition::proofs::time::TraceLaws::records_are_requests))]
+pub fn records_are_requests()
+    ensures { RecordsAreRequests }
+{}
+
+// Records whose stamps stand in the timetable add no request.
+#[tactic(auto, using(definition::proofs::time::TraceLaws::records_count_once))]
+pub fn records_count_once()
+    ensures { RecordsCountOnce }
+{}
+
+// IN reads the last record that the clock has come to.
+#[tactic(auto, using(definition::proofs::time::TraceLaws::last_record_read))]
+pub fn last_record_read()
+    ensures { LastRecordRead }
+{}
+
+// And 0 where all records are still ahead.
+#[tactic(auto, using(definition::proofs::time::TraceLaws::no_record_yet))]
+pub fn no_record_yet()
+    ensures { NoRecordYet }
 {}
 
 // A step of a running machine adds 1 to 23 cycles.
@@ -157,7 +187,7 @@ pub fn run_adds()
     ensures { RunAdds }
 {}
 
-// Every call makes its tests in the order of their numbers.
+// Every call makes its tests in the order of their numbers, but 10 right after 3.
 #[tactic(auto, using(definition::proofs::run::CallLaws::refusals_in_order))]
 pub fn refusals_in_order()
     ensures { RefusalsInOrder }

@@ -8,8 +8,8 @@ use Rattle.base.specs.FirstFailure.{Test, test}
 use Rattle.base.specs.Limits.{memory_bytes, last_clock, most_stamps, most_budget}
 use Rattle.base.specs.Verdict.{verdict, unrefused}
 use Rattle.base.specs.declared.refusal.Refusal.{Refusal}
-use Rattle.base.specs.declared.refusal.Refusal.TheVariants.{Map, Fence, Timetable, Frame, Distance, Clock}
-use Rattle.definition.specs.Setting.{Setting}
+use Rattle.base.specs.declared.refusal.Refusal.TheVariants.{Map, Fence, Timetable, Trace as TraceRefusal, Frame, Distance, Clock}
+use Rattle.definition.specs.Setting.{Trace, Setting}
 use Rattle.layout.specs.Rules.{accepted}
 use Rattle.definition.specs.declared.state.State.{State}
 use Rattle.definition.specs.State.{World, start, framed}
@@ -28,14 +28,19 @@ rising_from a (s ∷ stamps) = when all (ltb a s ∷ leb s last_clock ∷ []) th
 unfoldable pub timetable : List ℕ → Bool
 timetable stamps = all (leb (length stamps) most_stamps ∷ rising_from 0 stamps ∷ [])
 
+-- a trace: each stamp has its word, and the stamps are as those of a timetable
+unfoldable pub trace_fits : Trace → Bool
+trace_fits t = all (eqb (length t.stamps) (length t.words) ∷ timetable t.stamps ∷ [])
+
 -- the tests of start
 abbrev pub start_tests : List ℕ → List (Test Refusal)
 start_tests mem = test Map (whole_memory mem) ∷ []
 
--- the tests of a call on a machine, by what each finds: 1 to 4, then the call's own, then 6
-abbrev pub tests_found : Bool → Bool → Bool → Bool → List (Test Refusal) → Bool → List (Test Refusal)
-tests_found whole fence rising frame own early =
-    test Map whole ∷ test Fence fence ∷ test Timetable rising ∷ test Frame frame ∷ (own ++ (test Clock early ∷ []))
+-- the tests of a call on a machine, by what each finds: 1 to 3, 10, 4, then the call's own, then 6
+abbrev pub tests_found : Bool → Bool → Bool → Bool → Bool → List (Test Refusal) → Bool → List (Test Refusal)
+tests_found whole fence rising traced frame own early =
+    test Map whole ∷ test Fence fence ∷ test Timetable rising ∷ test TraceRefusal traced ∷ test Frame frame
+    ∷ (own ++ (test Clock early ∷ []))
 
 -- a run's own test is the budget's
 abbrev pub budget_tests : Bool → List (Test Refusal)
@@ -45,17 +50,17 @@ module _ (S : Setting) where
   -- the tests of a call on a world
   abbrev pub call_tests : World → List (Test Refusal) → List (Test Refusal)
   call_tests w own =
-      tests_found (whole_memory w.memory) (accepted S.layout) (timetable S.stamps) (framed S w.state) own
+      tests_found (whole_memory w.memory) (accepted S.layout) (timetable S.stamps) (trace_fits S.trace) (framed S w.state) own
       (leb w.state.time.clock last_clock)
 
-  -- run: 1 to 6
+  -- run: 1 to 6, and 10 after 3
   abbrev pub run_tests : ℕ → World → List (Test Refusal)
   run_tests budget w = call_tests w (budget_tests (leb budget most_budget))
 
   -- a run's transcript: those of run without the clock's, since a run that ends by the clock still has its last line to come
   abbrev pub transcript_tests : ℕ → World → List (Test Refusal)
   transcript_tests budget w =
-      tests_found (whole_memory w.memory) (accepted S.layout) (timetable S.stamps) (framed S w.state)
+      tests_found (whole_memory w.memory) (accepted S.layout) (timetable S.stamps) (trace_fits S.trace) (framed S w.state)
       (budget_tests (leb budget most_budget)) true
 
   -- step: those of run without the budget's

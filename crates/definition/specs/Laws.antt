@@ -1,5 +1,5 @@
 -- What is claimed of the machine.
-use Rattle.std.specs.Prelude.{◌≡◌, Bool, true, false, ◌⊎◌, List, [], ◌∷◌, ℕ, ◌+◌, ◌-◌, ◌≤◌, ◌<◌, ltb, length, None, Some, Ok, Err}
+use Rattle.std.specs.Prelude.{◌≡◌, Bool, true, false, ◌⊎◌, List, [], ◌∷◌, ℕ, ◌+◌, ◌-◌, ◌≤◌, ◌<◌, eqb, length, get_or, Option, None, Some, Ok, Err}
 use Rattle.base.specs.declared.refusal.Refusal.{Refusal}
 use Rattle.base.specs.declared.refusal.Refusal.TheVariants.{Distance, Clock}
 use Rattle.base.specs.Refusal.{refusal_number}
@@ -20,7 +20,7 @@ use Rattle.layout.specs.Sections.{section, inside, outside, same_side}
 use Rattle.layout.specs.Rules.{accepted}
 use Rattle.layout.specs.Access.{may}
 use Rattle.alu.specs.Status.{gie}
-use Rattle.definition.specs.Setting.{Setting}
+use Rattle.definition.specs.Setting.{trace_of, no_trace, Setting, setting_of}
 use Rattle.definition.specs.declared.state.Time.{Time}
 use Rattle.definition.specs.declared.state.State.{State}
 use Rattle.answers.specs.declared.answer.Cause.{Cause}
@@ -30,7 +30,8 @@ use Rattle.answers.specs.declared.answer.Outcome.TheVariants.{Ran, Plain, Padded
 use Rattle.answers.specs.declared.answer.End.TheVariants.{Halted as HaltedEnd, Clock as ClockEnd, Spent}
 use Rattle.definition.specs.Memory.{byte_at, word_at}
 use Rattle.definition.specs.Registers.{pc, sr}
-use Rattle.definition.specs.Time.{pass, emptied}
+use Rattle.definition.specs.Time.{request, pass, emptied, no_record, device_word}
+use Rattle.definition.specs.WithoutTrace.{request_without_trace, device_word_without_trace}
 use Rattle.definition.specs.State.{World, world, is_held, reset_address, start, framed, held_visit}
 use Rattle.definition.specs.Judge.{reads, writes, privileged, is_reti, judge_act, judge}
 use Rattle.definition.specs.Act.{registers_after, memory_after}
@@ -39,13 +40,56 @@ use Rattle.definition.specs.Step.{executed, judged, step}
 use Rattle.definition.specs.Run.{Stop, world_after, step_of, run, moves}
 use Rattle.definition.specs.Answers.{run_refusal, step_refusal}
 use Rattle.definition.specs.Promises.{Untouched}
-use Rattle.definition.specs.Calls.{whole_memory, timetable, start_tests, step_tests, run_tests, step_call, run_call}
+use Rattle.definition.specs.Calls.{whole_memory, timetable, trace_fits, start_tests, step_tests, run_tests, step_call, run_call}
 
 -- ---- time
 
 -- passing n and then m cycles is passing n + m
 unfoldable pub PassAdds : Type 0
 PassAdds = (S : Setting) (n m : ℕ) (t : Time) → pass S m (pass S n t) ≡ pass S (n + m) t
+
+-- a trace without a record: requests and device are those of the machine that knew no trace
+unfoldable pub EmptyTrace : Type 0
+EmptyTrace =
+    (S : Setting) → no_record S.trace.stamps ≡ true
+    → ((alarm : Option ℕ) (a b : ℕ) → request S alarm a b ≡ request_without_trace S alarm a b)
+    × ((t : Time) → device_word S t ≡ device_word_without_trace S t)
+
+-- a record is a request as a stamp of the timetable is: either list may hold it
+unfoldable pub RecordsAreRequests : Type 0
+RecordsAreRequests =
+    (L : Layout) (stamps words : List ℕ) (alarm : Option ℕ) (a b : ℕ)
+    → request (setting_of L [] (trace_of stamps words)) alarm a b ≡ request_without_trace (setting_of L stamps no_trace) alarm a b
+
+-- a stamp stands in a list
+unfoldable pub among : List ℕ → ℕ → Bool
+among [] s = false
+among (t ∷ stamps) s = when eqb t s then true else among stamps s
+
+-- each stamp of a list stands in another
+unfoldable pub all_among : List ℕ → List ℕ → Bool
+all_among stamps [] = true
+all_among stamps (s ∷ others) = all (among stamps s ∷ all_among stamps others ∷ [])
+
+-- records whose stamps stand in the timetable add no request
+unfoldable pub RecordsCountOnce : Type 0
+RecordsCountOnce =
+    (S : Setting) → all_among S.stamps S.trace.stamps ≡ true → (alarm : Option ℕ) (a b : ℕ)
+    → request S alarm a b ≡ request_without_trace S alarm a b
+
+-- IN reads the last record that the clock has come to: the one with this index, where the next, if there is one, is still ahead
+unfoldable pub LastRecordRead : Type 0
+LastRecordRead =
+    (S : Setting) (t : Time) (i : ℕ) → trace_fits S.trace ≡ true → i < length S.trace.stamps
+    → get_or S.trace.stamps i 0 ≤ t.clock
+    → (i + 1 < length S.trace.stamps → t.clock < get_or S.trace.stamps (i + 1) 0)
+    → device_word S t ≡ get_or S.trace.words i 0
+
+-- and 0 where all records are still ahead
+unfoldable pub NoRecordYet : Type 0
+NoRecordYet =
+    (S : Setting) (t : Time) → trace_fits S.trace ≡ true → 0 < length S.trace.stamps → t.clock < get_or S.trace.stamps 0 0
+    → device_word S t ≡ 0
 
 -- a step of a running machine adds 1 to 23 cycles
 unfoldable pub StepCycles : Type 0
@@ -80,6 +124,7 @@ pub record ReadyToRun (S : Setting) (w : World) : Type 0 where
   pub memory : whole_memory w.memory ≡ true
   pub layout : accepted S.layout ≡ true
   pub timetable : timetable S.stamps ≡ true
+  pub trace : trace_fits S.trace ≡ true
   pub frame : framed S w.state ≡ true
 
 -- of a world that passes them, only refusals 5 and 6 can happen
@@ -257,17 +302,18 @@ RunAdds =
 
 -- ---- refusals
 
--- the numbers of a list of tests rise
-unfoldable pub in_order : ℕ → List (Test Refusal) → Bool
-in_order n [] = true
-in_order n (t ∷ tests) = when ltb n (refusal_number t.failure) then in_order (refusal_number t.failure) tests else false
+-- the refusals of a list of tests, by their numbers
+abbrev pub refusal_numbers : List (Test Refusal) → List ℕ
+refusal_numbers [] = []
+refusal_numbers (t ∷ tests) = refusal_number t.failure ∷ refusal_numbers tests
 
--- every call makes its tests in the order of their numbers
+-- every call makes its tests in the order of their numbers, but 10 right after 3
 unfoldable pub RefusalsInOrder : Type 0
 RefusalsInOrder =
     (S : Setting) (budget : ℕ) (w : World)
-    → (in_order 0 (start_tests w.memory) ≡ true) × (in_order 0 (step_tests S w) ≡ true)
-    × (in_order 0 (run_tests S budget w) ≡ true)
+    → (refusal_numbers (start_tests w.memory) ≡ 1 ∷ [])
+    × (refusal_numbers (step_tests S w) ≡ 1 ∷ 2 ∷ 3 ∷ 10 ∷ 4 ∷ 6 ∷ [])
+    × (refusal_numbers (run_tests S budget w) ≡ 1 ∷ 2 ∷ 3 ∷ 10 ∷ 4 ∷ 5 ∷ 6 ∷ [])
 
 -- a call that is refused leaves the machine and every byte as they came
 unfoldable pub RefusedUntouched : Type 0

@@ -2,6 +2,7 @@ pub mod Setting
 pub mod Memory
 pub mod Registers
 pub mod Time
+pub mod WithoutTrace
 pub mod State
 pub mod Judge
 pub mod Act

@@ -22,7 +22,7 @@ use Rattle.definition.specs.State.{World, world, reset_address, start, framed_co
 use Rattle.definition.specs.Interrupt.{Step, age_of, due, reset, plain, padded, chained, back}
 use Rattle.definition.specs.Step.{saved_for, executed}
 use Rattle.definition.specs.Run.{step_of, world_after}
-use Rattle.definition.specs.Calls.{whole_memory, timetable}
+use Rattle.definition.specs.Calls.{whole_memory, timetable, trace_fits}
 use Rattle.definition.specs.Laws.{FramedAtStart, FrameKept, LengthKept, ReadyToRun, OnlyDistanceOrClock}
 use Rattle.definition.proofs.instruction.InstructionLaws.{halts_or_alarms}
 use Rattle.definition.proofs.step.StepLaws.{next, after_return, Way, resets, halts, runs, serves, pads, chains, returns, pads_again, step_case}
@@ -167,9 +167,9 @@ frame_kept S m mem v e =
 
 -- a world is ready to run at the start, and stays so
 pub ready_at_start : (S : Setting) (mem : List ℕ) → whole_memory mem ≡ true → accepted S.layout ≡ true → timetable S.stamps ≡ true
-    → ReadyToRun S (world (start mem) mem)
+    → trace_fits S.trace ≡ true → ReadyToRun S (world (start mem) mem)
 unfolding FramedAtStart
-ready_at_start S mem w v t = record { memory = w; layout = v; timetable = t; frame = framed_at_start S mem }
+ready_at_start S mem w v t u = record { memory = w; layout = v; timetable = t; trace = u; frame = framed_at_start S mem }
 
 pub ready_kept : (S : Setting) (w : World) → ReadyToRun S w → ReadyToRun S (world_after (step_of S w))
 unfolding LengthKept FrameKept
@@ -178,6 +178,7 @@ ready_kept S w s =
       memory = ap (λ (n : ℕ). eqb n memory_bytes) (length_kept S w.state w.memory) ∙ s.memory;
       layout = s.layout;
       timetable = s.timetable;
+      trace = s.trace;
       frame = frame_kept S w.state w.memory s.layout s.frame;
     }
 

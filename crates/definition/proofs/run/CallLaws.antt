@@ -1,22 +1,22 @@
 -- What a call knows where it is taken, and what it must hand back. Assumes nothing.
-use Rattle.std.proofs.Common.{Result, Err, ◌≡◌, refl, ap, true, List, ℕ, ◌≤◌, length, arith}
+use Rattle.std.proofs.Common.{Result, Err, ◌≡◌, refl, ap, Bool, true, leb, List, [], ℕ, ◌≤◌, length, arith}
 use Rattle.std.proofs.lemmas.Bool.Decides.{nat_tests}
 use Rattle.answers.specs.declared.answer.Stopped.{Stopped}
 use Rattle.answers.specs.declared.answer.Outcome.{Outcome}
-use Rattle.base.specs.Test.{when◌then◌else◌}
 use Rattle.base.specs.declared.refusal.Refusal.{Refusal}
 use Rattle.base.specs.FirstFailure.{Test, holds_of}
-use Rattle.base.specs.Limits.{memory_bytes, last_clock}
+use Rattle.base.specs.Limits.{memory_bytes, last_clock, most_budget}
 use Rattle.base.specs.Verdict.{verdict, refused_by, unrefused}
 use Rattle.base.proofs.Refusals.{number_not_zero}
 use Rattle.base.proofs.Tests.{Each, none_fails}
+use Rattle.layout.specs.Rules.{accepted}
 use Rattle.definition.specs.Setting.{Setting}
 use Rattle.definition.specs.declared.state.State.{State}
-use Rattle.definition.specs.State.{World, world}
+use Rattle.definition.specs.State.{World, world, framed}
 use Rattle.definition.specs.Answers.{start_refusal}
-use Rattle.definition.specs.Calls.{timetable, start_tests, step_tests, run_tests, called, start_answered, step_answered, run_answered, start_call, step_call, run_call}
+use Rattle.definition.specs.Calls.{timetable, trace_fits, start_tests, tests_found, whole_memory, budget_tests, step_tests, run_tests, transcript_tests, called, start_answered, step_answered, run_answered, start_call, step_call, run_call}
 use Rattle.definition.specs.Promises.{StartPromise, StepPromise, RunPromise}
-use Rattle.definition.specs.Laws.{in_order, RefusalsInOrder, RefusedUntouched}
+use Rattle.definition.specs.Laws.{ReadyToRun, RefusalsInOrder, RefusedUntouched}
 
 -- ---- what is known where a call is taken
 
@@ -28,11 +28,30 @@ not_taken r e = number_not_zero r (ap refused_by e)
 pub all_hold : (ts : List (Test Refusal)) → verdict ts ≡ unrefused → Each (holds_of ts)
 all_hold ts e = none_fails unrefused Err not_taken ts e
 
+module _ (S : Setting) (w : World) where
+  -- what every call on a machine that is taken knows, whatever its own tests and the clock's are
+  found_ready : (own : List (Test Refusal)) (early : Bool)
+      → verdict (tests_found (whole_memory w.memory) (accepted S.layout) (timetable S.stamps) (trace_fits S.trace) (framed S w.state) own early) ≡ unrefused
+      → ReadyToRun S w
+  found_ready own early e =
+      let h = all_hold _ e in
+      record { memory = h.0; layout = h.1.0; timetable = h.1.1.0; trace = h.1.1.1.0; frame = h.1.1.1.1.0 }
+
+  pub step_ready : verdict (step_tests S w) ≡ unrefused → ReadyToRun S w
+  step_ready e = found_ready [] (leb w.state.time.clock last_clock) e
+
+  pub run_ready : (budget : ℕ) → verdict (run_tests S budget w) ≡ unrefused → ReadyToRun S w
+  run_ready budget e = found_ready (budget_tests (leb budget most_budget)) (leb w.state.time.clock last_clock) e
+
+  pub transcript_ready : (budget : ℕ) → verdict (transcript_tests S budget w) ≡ unrefused → ReadyToRun S w
+  transcript_ready budget e = found_ready (budget_tests (leb budget most_budget)) true e
+
 module _ (S : Setting) where
-  -- memory is whole, the stamps are a timetable, the clock is not late
+  -- memory is whole, the stamps are a timetable, the trace is one, the clock is not late
   pub record Fit (w : World) : Type 0 where
     pub whole : length w.memory ≡ memory_bytes
     pub timed : timetable S.stamps ≡ true
+    pub traced : trace_fits S.trace ≡ true
     pub early : w.state.time.clock ≤ last_clock
 
   pub step_fit : (w : World) → verdict (step_tests S w) ≡ unrefused → Fit w
@@ -84,7 +103,7 @@ module _ (S : Setting) (w : World) (v : Result (Unit {0}) Refusal) where
 -- ---- every call
 
 pub refusals_in_order : RefusalsInOrder
-unfolding RefusalsInOrder in_order when◌then◌else◌
+unfolding RefusalsInOrder
 refusals_in_order S budget w = (refl, refl, refl)
 
 pub refused_untouched : RefusedUntouched
