@@ -1,5 +1,5 @@
 -- A list of calls is a chain of steps of a running machine, each from where the last one left. Assumes nothing.
-use Rattle.std.proofs.Common.{Result, Err, Ok, ◌≡◌, refl, true, false, List, [], ◌∷◌, ◌++◌, ℕ, zero, suc, ◌+◌, ◌≤◌, arith, leb-true}
+use Rattle.std.proofs.Common.{Result, Err, Ok, ◌≡◌, refl, true, false, List, [], ◌∷◌, ◌++◌, ℕ, zero, suc, ◌+◌, ◌≤◌, arith}
 use Rattle.base.specs.declared.refusal.Refusal.{Refusal}
 use Rattle.base.specs.Limits.{last_clock}
 use Rattle.base.proofs.Tests.{choices}
@@ -9,11 +9,10 @@ use Rattle.definition.specs.Setting.{Setting}
 use Rattle.definition.specs.State.{World}
 use Rattle.definition.specs.Run.{Going, ending, Move, world_after, step_of, run_from, run, none_or, moves}
 use Rattle.definition.specs.Calls.{step_tests, run_tests, step_call, run_call}
-use Rattle.definition.specs.Laws.{HaltedStays, FrameKept, LengthKept, ReadyToRun, world_at}
+use Rattle.definition.specs.Laws.{HaltedStays, ReadyToRun, world_at}
 use Rattle.definition.proofs.step.CycleLaws.{halted_stays}
-use Rattle.definition.proofs.frame.FrameLaws.{frame_kept}
-use Rattle.definition.proofs.step.TouchLaws.{length_kept}
-use Rattle.definition.proofs.run.CallLaws.{all_hold}
+use Rattle.definition.proofs.frame.FrameLaws.{ready_kept}
+use Rattle.definition.proofs.run.CallLaws.{all_hold, step_fit}
 use Rattle.definition.proofs.run.RunLaws.{Ends, running, halted_now, late_now, ends}
 use Rattle.secrecy.specs.Calls.{Call, stepping, moves_when, steps_of, left_by, run_of, left_by_all}
 use Rattle.secrecy.specs.Calls
@@ -79,8 +78,7 @@ module _ (S : Setting) where
 
   -- no step is taken from a clock above the last
   step_clock : (w : World) → verdict (step_tests S w) ≡ unrefused → w.state.time.clock ≤ last_clock
-  step_clock w e =
-      leb-true _ _ (all_hold _ e).1.1.1.1.0
+  step_clock w e = (step_fit S w e).early
 
   left_end : (w : World) (c : Call) → left_by S w c ≡ end_of w (steps_of S w c)
   unfolding left_by steps_of step_call run_call run moves end_of ending HaltedStays
@@ -100,21 +98,11 @@ module _ (S : Setting) where
   left_by_all_lem w [] = unfold end_of in refl
   left_by_all_lem w (c ∷ calls) = cc (left_by_all_lem (left_by S w c) calls, left_end w c, end_append w (steps_of S w c) (run_of S (left_by S w c) calls))
 
-  -- what refusals 1 to 4 test stays true, so that only 5 and 6 can happen on a list
-  ready_next : (w : World) → ReadyToRun S w → ReadyToRun S (next w)
-  unfolding FrameKept LengthKept
-  ready_next w s =
-      record {
-        memory = cc (length_kept S w.state w.memory);
-        layout = s.layout;
-        timetable = s.timetable;
-        frame = frame_kept S w.state w.memory s.layout s.frame;
-      }
-
+  -- what refusals 1 to 4 and 10 test stays true, so that only 5 and 6 can happen on a list
   ready_end : {w : World} {vs : List Move} → Chain w vs → ReadyToRun S w → ReadyToRun S (end_of w vs)
   unfolding end_of
   ready_end done s = s
-  ready_end {w} (more h c) s = ready_end c (ready_next w s)
+  ready_end {w} (more h c) s = ready_end c (ready_kept S w s)
 
   pub ready_left : (w : World) (calls : List Call) → ReadyToRun S w → ReadyToRun S (left_by_all S w calls)
   ready_left w calls s = rw left_by_all_lem (ready_end (run_chain w calls) s)

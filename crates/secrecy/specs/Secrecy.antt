@@ -50,7 +50,7 @@ pub record Agree (T : ℕ) (end_a end_b : World) (xs ys : List Sighting) : Type 
   pub as_far : AgreeAsFar xs ys
   pub equally_many : complete T end_a ≡ true → complete T end_b ≡ true → length xs ≡ length ys
 
--- secrecy under a premise on two runs: any layout and timetable, two memories equal at each outside address, two lists of calls, any
+-- secrecy under a premise on two runs: any layout, timetable and trace, two memories equal at each outside address, two lists of calls, any
 -- clock value
 unfoldable pub SecrecyUnder : (Setting → ℕ → List Move → List Move → Type 0) → Type 0
 SecrecyUnder Premised =

@@ -21,7 +21,7 @@ pub record Module : Type 0 where
   pub words : List MLine
   pub steps : ℕ
 
--- two machines: layout and timetable, the words outside, the two modules, a clock value
+-- two machines: layout and timetable, no trace, the words outside, the two modules, a clock value
 pub record Pair : Type 0 where
   pub setting : Setting
   pub outer : List MLine

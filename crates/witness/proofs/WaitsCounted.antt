@@ -2,7 +2,7 @@
 use Rattle.std.proofs.Common.{refl, [], ◌∷◌, ℕ}
 use Rattle.secrecy.specs.Visit.{leaving, VisitEnd, ended}
 use Rattle.secrecy.specs.Secrecy.{EqualEnds}
-use Rattle.definition.specs.Setting.{setting_of}
+use Rattle.definition.specs.Setting.{no_trace, setting_of}
 use Rattle.witness.specs.Lines.{M}
 use Rattle.witness.specs.Needed.{cycles_and_waits, WaitsNotOwn}
 use Rattle.witness.proofs.Pairs.{Pair, pair_layout, Shown, clock_seen, shown_computes, equal_as_far, one_visit, refuted}
@@ -12,7 +12,7 @@ use Rattle.witness.proofs.Pairs.{Pair, pair_layout, Shown, clock_seen, shown_com
 unfoldable pair : Pair
 pair =
     record {
-      setting = setting_of pair_layout (5 ∷ []);
+      setting = setting_of pair_layout (5 ∷ []) no_trace;
       outer =
           M 0x0000 0x4032 ∷ M 0x0002 0x0008 ∷ M 0x0004 0x4030 ∷ M 0x0006 0x0040 ∷ M 0x0010 0x0001 ∷ M 0x0020 0x1300 ∷ [];
       module_a = record { words = M 0x0040 0x4303 ∷ M 0x0042 0x4030 ∷ M 0x0044 0x0010 ∷ []; steps = 6 };

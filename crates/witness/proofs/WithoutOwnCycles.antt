@@ -1,7 +1,7 @@
 -- Own cycles are needed: two modules that leave alike, one a NOP later. Assumes nothing.
 use Rattle.std.proofs.Common.{refl, [], ◌∷◌, ℕ}
 use Rattle.secrecy.specs.Visit.{leaving, VisitEnd, ended, own_cycles}
-use Rattle.definition.specs.Setting.{setting_of}
+use Rattle.definition.specs.Setting.{no_trace, setting_of}
 use Rattle.witness.specs.Lines.{M}
 use Rattle.witness.specs.Needed.{EqualButOwn, OwnCyclesNeeded}
 use Rattle.witness.proofs.Pairs.{Pair, pair_layout, Shown, clock_seen, shown_computes, equal_as_far, one_visit, refuted}
@@ -10,7 +10,7 @@ use Rattle.witness.proofs.Pairs.{Pair, pair_layout, Shown, clock_seen, shown_com
 unfoldable pair : Pair
 pair =
     record {
-      setting = setting_of pair_layout [];
+      setting = setting_of pair_layout [] no_trace;
       outer = M 0x0000 0x4030 ∷ M 0x0002 0x0040 ∷ M 0x0010 0x0001 ∷ [];
       module_a = record { words = M 0x0040 0x4030 ∷ M 0x0042 0x0010 ∷ []; steps = 3 };
       module_b = record { words = M 0x0040 0x4303 ∷ M 0x0042 0x4030 ∷ M 0x0044 0x0010 ∷ []; steps = 4 };

@@ -1,6 +1,6 @@
 -- Registers are needed: two modules that leave alike, but for r5. Assumes nothing.
 use Rattle.std.proofs.Common.{refl, [], ◌∷◌, ℕ}
-use Rattle.definition.specs.Setting.{setting_of}
+use Rattle.definition.specs.Setting.{no_trace, setting_of}
 use Rattle.definition.specs.Registers.{register}
 use Rattle.secrecy.specs.Sighting.{View}
 use Rattle.secrecy.specs.Visit.{leaving, VisitEnd, ended, own_cycles}
@@ -12,7 +12,7 @@ use Rattle.witness.proofs.Pairs.{Pair, pair_layout, Shown, shown_computes, equal
 unfoldable pair : Pair
 pair =
     record {
-      setting = setting_of pair_layout [];
+      setting = setting_of pair_layout [] no_trace;
       outer = M 0x0000 0x4030 ∷ M 0x0002 0x0040 ∷ M 0x0010 0x0001 ∷ [];
       module_a = record { words = M 0x0040 0x4035 ∷ M 0x0042 0x0000 ∷ M 0x0044 0x4030 ∷ M 0x0046 0x0010 ∷ []; steps = 4 };
       module_b = record { words = M 0x0040 0x4035 ∷ M 0x0042 0x0001 ∷ M 0x0044 0x4030 ∷ M 0x0046 0x0010 ∷ []; steps = 4 };

@@ -1,6 +1,6 @@
 -- The way is needed: one module leaves for the reset vector's address, one resets, and a request is pending. Assumes nothing.
 use Rattle.std.proofs.Common.{Option, None, Some, refl, [], ◌∷◌, ℕ}
-use Rattle.definition.specs.Setting.{setting_of}
+use Rattle.definition.specs.Setting.{no_trace, setting_of}
 use Rattle.secrecy.specs.Sighting.{View}
 use Rattle.secrecy.specs.Visit.{Way, leaving, own_reset, VisitEnd, ended, own_cycles}
 use Rattle.witness.specs.Lines.{M}
@@ -12,7 +12,7 @@ use Rattle.witness.proofs.Pairs.{Pair, pair_layout, Shown, shown_computes, equal
 unfoldable pair : Pair
 pair =
     record {
-      setting = setting_of pair_layout (3 ∷ []);
+      setting = setting_of pair_layout (3 ∷ []) no_trace;
       outer = M 0x0000 0x4030 ∷ M 0x0002 0x0040 ∷ [];
       module_a = record { words = M 0x0040 0x4303 ∷ M 0x0042 0x4303 ∷ M 0x0044 0x4500 ∷ []; steps = 5 };
       module_b = record { words = M 0x0040 0x0000 ∷ []; steps = 3 };

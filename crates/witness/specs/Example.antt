@@ -2,7 +2,7 @@
 -- code sees the same.
 use Rattle.std.specs.Prelude.{ℕ, ◌≡◌, true, List, [], ◌∷◌, ◌++◌, length}
 use Rattle.base.specs.Verdict.{unrefused}
-use Rattle.definition.specs.Setting.{Setting, setting_of}
+use Rattle.definition.specs.Setting.{no_trace, Setting, setting_of}
 use Rattle.layout.specs.declared.sections.Layout.{Layout}
 use Rattle.layout.specs.Sections.{outside}
 use Rattle.answers.specs.declared.answer.Outcome.TheVariants.{Ran, Padded, Back, Halted}
@@ -21,7 +21,7 @@ example_layout = record { code = record { start = 0x0040; end = 0x004A }; «data
 
 -- and one request, at stamp 5
 abbrev pub example_setting : Setting
-example_setting = setting_of example_layout (5 ∷ [])
+example_setting = setting_of example_layout (5 ∷ []) no_trace
 
 -- outside: GIE is set, the module is entered; later some NOPs and HLT. The service routine: two NOPs and RETI
 abbrev pub outside_lines : List MLine
