@@ -35,13 +35,22 @@ module _ (S : Setting) (masked : Bool) (t : Time) where
             rw (filled_stays t.slot s e, alarm_stays t.clock (t.clock + n) t.alarm (a _ k));
       }
 
-  -- an empty slot, and neither the alarm nor the upcoming stamp happens
-  module _ (upcoming until : ℕ) (e : t.slot ≡ None) (small : until ≤ last_clock) (timed : timetable S.stamps ≡ true)
-      (p : IsUpcoming S.stamps t.clock upcoming) (a : NotHappeningUntil t.clock t.alarm until)
-      (s : NotHappeningUntil t.clock (stamp_at S.stamps upcoming) until) where
+  -- an empty slot, and neither the alarm nor the upcoming stamp nor the upcoming record happens
+  module _ (upcoming upcoming_record until : ℕ) (e : t.slot ≡ None) (small : until ≤ last_clock)
+      (timed : timetable S.stamps ≡ true) (traced : timetable S.trace.stamps ≡ true)
+      (p : IsUpcoming S.stamps t.clock upcoming) (q : IsUpcoming S.trace.stamps t.clock upcoming_record)
+      (a : NotHappeningUntil t.clock t.alarm until) (s : NotHappeningUntil t.clock (stamp_at S.stamps upcoming) until)
+      (r : NotHappeningUntil t.clock (stamp_at S.trace.stamps upcoming_record) until) where
     none_requested : (b : ℕ) → b ≤ until → request S t.alarm t.clock b ≡ None
     unfolding request earlier
-    none_requested b h = rw (upcoming_earliest t.clock b S.stamps upcoming timed p, s b h, a b h)
+    none_requested b h =
+        rw (
+          upcoming_earliest t.clock b S.stamps upcoming timed p,
+          upcoming_earliest t.clock b S.trace.stamps upcoming_record traced q,
+          s b h,
+          r b h,
+          a b h,
+        )
 
     pub no_event_by : NoEventUntil S masked t until
     unfolding pass

@@ -1,23 +1,25 @@
--- The earliest stamp of a timetable that happens is the upcoming one, if it happens. Assumes nothing.
-use Rattle.std.proofs.Common.{◌≡◌, ℕ, zero, suc, ◌+◌, ◌-◌, ◌<◌, ◌≤◌, true, leb, List, [], ◌∷◌, length, get_or, drop, refl, arith, length-drop, get_or-drop, Option, None, Some}
+-- The earliest stamp of a list that happens is the upcoming one, if it happens; the word of the last record that is not ahead stands before
+-- the upcoming one. Assumes nothing.
+use Rattle.std.proofs.Common.{◌≡◌, ℕ, zero, suc, ◌+◌, ◌-◌, ◌<◌, ◌≤◌, true, leb, List, [], ◌∷◌, length, get_or, drop, arith, length-drop, get_or-drop, Option, None, Some}
 use Rattle.std.specs.List.{prefix_len}
 use Rattle.std.proofs.lemmas.List.Sums.{prefix_len_passes, prefix_len_stops, prefix_len-le-length}
 use Rattle.base.specs.Test.{all}
+use Rattle.base.specs.Limits.{last_clock}
 use Rattle.base.proofs.Tests.{choices}
-use Rattle.definition.specs.Time.{happening, earlier, earliest}
-use Rattle.definition.specs.Calls.{rising_from, timetable}
+use Rattle.layout.specs.declared.sections.Layout.{Layout}
+use Rattle.definition.specs.Setting.{Setting}
+use Rattle.clock.specs.Trace.{lent_trace}
+use Rattle.definition.specs.declared.state.Time.{Time}
+use Rattle.definition.specs.Time.{happening, earlier, earliest, request, device_word}
+use Rattle.definition.specs.Calls.{rising_from, timetable, trace_fits}
+use Rattle.definition.specs.Laws.{LastRecordRead, NoRecordYet}
 use Rattle.clock.specs.declared.time.Requests.{Requests}
-use Rattle.clock.specs.Upcoming.{stamp_at, StampsPassed, IsUpcoming}
-use Rattle.clock.specs.Requests.{CanPass}
+use Rattle.clock.specs.Upcoming.{step_room, stamp_at, word_before, StampsPassed, IsUpcoming}
+use Rattle.clock.specs.Requests.{setting_with, HasPassed, AtClock, CanPass}
+use Rattle.definition.proofs.time.TraceLaws.{earlier_never, trace_timed, last_record_read, no_record_yet}
 use Rattle.definition.proofs.time.TimetableLaws.{rising_cons, rising_order, timetable_rising}
 
 -- ---- the earliest stamp
-
--- no stamp is later than any
-earlier_never : (x : Option ℕ) → earlier x None ≡ x
-unfolding earlier
-earlier_never None = refl
-earlier_never (Some s) = refl
 
 module _ (a b : ℕ) where
   -- a stamp that the clock has passed does not happen
@@ -79,6 +81,18 @@ pub upcoming_earliest : (a b : ℕ) (stamps : List ℕ) (upcoming : ℕ) → tim
     → earliest a b stamps ≡ happening a b (stamp_at stamps upcoming)
 upcoming_earliest a b stamps upcoming t p = upcoming_rising a b 0 stamps upcoming (timetable_rising stamps t) p
 
+-- the earliest request of a run's lists is the earliest of the upcoming stamp, the upcoming record and the alarm, as far as they happen
+pub request_upcoming : (L : Layout) (r : Requests) (alarm : Option ℕ) (a b : ℕ) → AtClock r a
+    → request (setting_with L r) alarm a b
+    ≡ earlier (earlier (happening a b (stamp_at r.lists.stamps.now r.upcoming))
+    (happening a b (stamp_at r.lists.trace.stamps.now r.upcoming_record))) (happening a b alarm)
+unfolding request
+request_upcoming L r alarm a b p =
+    rw (
+      upcoming_earliest a b r.lists.stamps.now r.upcoming r.lists.timed p.stamps,
+      upcoming_earliest a b r.lists.trace.stamps.now r.upcoming_record (trace_timed (lent_trace r.lists.trace) r.lists.traced) p.records,
+    )
+
 -- ---- stamps that the clock has passed
 
 module _ (stamps : List ℕ) (clock upcoming : ℕ) where
@@ -111,6 +125,39 @@ module _ (stamps : List ℕ) (clock upcoming : ℕ) where
           };
           ahead = λ i h m. grind (arith, not_counted, rising_order 0 stamps (upcoming + k) i (timetable_rising stamps t));
         }
+
+-- the clock goes on, of both lists
+pub requests_later : (r : Requests) (clock later : ℕ) → clock ≤ later → AtClock r clock → HasPassed r later
+requests_later r clock later h p =
+    record {
+      stamps = passed_later r.lists.stamps.now clock r.upcoming later h p.stamps;
+      records = passed_later r.lists.trace.stamps.now clock r.upcoming_record later h p.records;
+    }
+
+-- a step that begins at a clock value that is not late has room
+pub can_step : (r : Requests) (clock : ℕ) → clock ≤ last_clock → AtClock r clock → CanPass r clock step_room
+can_step r clock h p = record { passed = requests_later r clock clock (omega arith) p; room = omega arith }
+
+-- ---- the device's word
+
+-- the word before an index
+word_first : (words : List ℕ) → word_before words 0 ≡ 0
+unfolding word_before
+word_first words = grind (arith, choices)
+
+word_later : (words : List ℕ) (i : ℕ) → word_before words (suc i) ≡ get_or words i 0
+unfolding word_before
+word_later words i = grind (arith, choices)
+
+-- the word of the last record that is not ahead stands before the upcoming one
+pub device_before : (S : Setting) (t : Time) (upcoming : ℕ) → trace_fits S.trace ≡ true → 0 < length S.trace.stamps
+    → IsUpcoming S.trace.stamps t.clock upcoming → device_word S t ≡ word_before S.trace.words upcoming
+unfolding LastRecordRead NoRecordYet
+device_before S t zero f n p = rw (word_first S.trace.words) (no_record_yet S t f n (p.ahead 0 (omega arith) n))
+device_before S t (suc i) f n p =
+    let h = p.passed.fits in
+    rw (word_later S.trace.words i)
+    (last_record_read S t i f (omega arith) (p.passed.gone i (omega arith)) (λ m. p.ahead (i + 1) (omega arith) m))
 
 -- no stamp stands before the first
 pub none_passed : (stamps : List ℕ) (clock : ℕ) → StampsPassed stamps clock 0

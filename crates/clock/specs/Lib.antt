@@ -1,3 +1,4 @@
 pub mod Upcoming
+pub mod Trace
 pub mod Requests
 pub mod NoEvent

@@ -1,14 +1,14 @@
-// The clock, the requests and the pending slot that takes them.
+// The clock, the requests, the pending slot that takes them, and the word of the device.
 ghost use Rattle.std.specs.Prelude.{◌≡◌, ◌+◌, ◌≤◌, true, false, length, nat_le};
 ghost use Rattle.std.specs.List.{prefix_len};
 ghost use Rattle.base.specs.Limits.{last_clock};
 ghost use Rattle.layout.specs.declared.sections.Layout.{Layout};
-ghost use Rattle.definition.specs.Setting.{Setting};
 ghost use Rattle.definition.specs.Time.{start_time, happens, happening, earlier, filled_by, alarm_left, emptied, set_alarm, device_word, pass};
-ghost use Rattle.clock.specs.Upcoming.{clock_room};
+ghost use Rattle.definition.specs.Calls.{timetable};
+ghost use Rattle.clock.specs.Upcoming.{stamp_at, word_before, StampsPassed, IsUpcoming, clock_room};
 ghost use Rattle.clock.specs.NoEvent.{NotHappeningUntil};
 
-use crate::timetable::Timetable;
+use crate::lists::RequestLists;
 use base::limits::LAST_CLOCK;
 use definition::state::Time;
 
@@ -120,74 +120,120 @@ pub fn set_alarm(t: Time, w: u16) -> Time
     }
 }
 
-// What IN gives: the clock's low 16 bits.
-#[tactic(auto, unfolding(definition::specs::Time::device_word))]
-pub fn device_word(t: Time) -> u16
-    ensures { (S : Setting) → result ≡ device_word S t }
+// The stamp at an index, if there is one.
+#[tactic(auto, using(base::proofs::Tests::choices), unfolding(crate::specs::Upcoming::stamp_at))]
+fn stamp_at(stamps: &[u64], index: usize) -> Option<u64>
+    ensures { result ≡ stamp_at stamps.now index }
 {
-    (t.clock % 65536) as u16
+    stamps.get(index).copied()
 }
 
-// The requests of a timetable, with the index of the upcoming one: the clock has passed the stamps before it. The layout goes beside them and in
-// no struct with them: what takes one of the two promises its result for every value of the other (docs/DECISIONS.md, *One record for what stays
-// fixed*). The clock that they are at is no field: the waits of one step look from one index at several clock values.
+// The word before an index, 0 at the first.
+#[tactic(auto, using(base::proofs::Tests::choices), unfolding(crate::specs::Upcoming::word_before))]
+fn word_before(words: &[u16], index: usize) -> u16
+    ensures { result ≡ word_before words.now index }
+{
+    if index == 0 {
+        return 0;
+    }
+    words.get(index - 1).copied().unwrap_or(0)
+}
+
+// The index of the upcoming stamp at a clock value, looked for from an index on.
+fn upcoming_at(stamps: &[u64], from: usize, clock: u64) -> usize
+    requires { from ≤ length stamps.now }
+    ensures within { result ≤ length stamps.now }
+    ensures upcoming { timetable stamps.now ≡ true → StampsPassed stamps.now clock from → IsUpcoming stamps.now clock result }
+{
+    from + count_passed(&stamps[from..], clock)
+}
+
+// The requests of a run's lists, with the index of the upcoming stamp in each: the clock has passed those before it. The layout goes beside them and
+// in no struct with them: what takes one of the two promises its result for every value of the other (docs/DECISIONS.md, *One record for what stays
+// fixed*). The clock that they are at is no field: the waits of one step look from the same indices at several clock values.
 #[derive(Clone, Copy)]
 pub struct Requests<'a> {
-    pub timetable: Timetable<'a>,
+    pub lists: RequestLists<'a>,
     pub upcoming: usize,
-    pub ghost within: { upcoming ≤ length timetable.stamps.now },
+    pub upcoming_record: usize,
+    pub ghost within: { upcoming ≤ length lists.stamps.now },
+    pub ghost recorded: { upcoming_record ≤ length lists.trace.stamps.now },
 }
 
-impl<'a> Timetable<'a> {
+impl<'a> RequestLists<'a> {
     ghost use Rattle.clock.specs.Requests.{AtClock};
 
-    // The requests at a clock value: the upcoming one is looked for from the first on.
+    // The requests at a clock value: the upcoming ones are looked for from the first on.
     #[tactic(auto, using(crate::proofs::UpcomingLaws::none_passed))]
     pub fn requests_at(self, clock: u64) -> Requests<'a>
-        ensures timetable { result.timetable ≡ self.entry }
+        ensures lists { result.lists ≡ self.entry }
         ensures upcoming { AtClock result clock }
     {
         let first = Requests {
-            timetable: self,
+            lists: self,
             upcoming: 0,
+            upcoming_record: 0,
         };
         first.at(clock)
     }
 }
 
 impl<'a> Requests<'a> {
-    ghost use Rattle.clock.specs.Upcoming.{stamp_at, StampsPassed};
     ghost use Rattle.clock.specs.NoEvent.{NoEventUntil};
     ghost use Rattle.clock.specs.Requests.{setting_with, HasPassed, AtClock, CanPass};
 
-    // The stamp of the upcoming request, if there is one.
-    #[tactic(auto, using(base::proofs::Tests::choices), unfolding(crate::specs::Upcoming::stamp_at))]
+    // The stamp of the upcoming request of the timetable, if there is one.
     fn stamp(self) -> Option<u64>
-        ensures { result ≡ stamp_at self.entry.timetable.stamps.now self.entry.upcoming }
+        ensures { result ≡ stamp_at self.entry.lists.stamps.now self.entry.upcoming }
     {
-        self.timetable.stamps.get(self.upcoming).copied()
+        stamp_at(self.lists.stamps, self.upcoming)
     }
 
-    // The requests at a later clock value: the upcoming one is looked for from here on.
+    // The stamp of the upcoming record, if there is one.
+    fn record_stamp(self) -> Option<u64>
+        ensures { result ≡ stamp_at self.entry.lists.trace.stamps.now self.entry.upcoming_record }
+    {
+        stamp_at(self.lists.trace.stamps, self.upcoming_record)
+    }
+
+    // The requests at a later clock value: the upcoming ones are looked for from here on.
     pub fn at(self, clock: u64) -> Requests<'a>
-        ensures timetable { result.timetable ≡ self.entry.timetable }
+        ensures lists { result.lists ≡ self.entry.lists }
         ensures upcoming { HasPassed self.entry clock → AtClock result clock }
     {
-        let stamps = self.timetable.stamps;
+        let lists = self.lists;
         Requests {
-            timetable: self.timetable,
-            upcoming: self.upcoming + count_passed(&stamps[self.upcoming..], clock),
+            lists,
+            upcoming: upcoming_at(lists.stamps, self.upcoming, clock),
+            upcoming_record: upcoming_at(lists.trace.stamps, self.upcoming_record, clock),
         }
     }
 
-    // n cycles pass, with the upcoming stamp: the only thing that moves the clock, fills the slot and rings the alarm.
-    #[tactic(auto, using(crate::proofs::UpcomingLaws::upcoming_earliest), unfolding(definition::specs::Time::pass, definition::specs::Time::request))]
+    // What IN gives: the word of the last record whose stamp is at most the clock, 0 before the first; without a trace the clock's low 16 bits.
+    #[tactic(auto, using(base::proofs::Tests::choices), unfolding(definition::specs::Time::device_word))]
+    pub fn device_word(self, t: Time) -> u16
+        ensures { (L : Layout) → HasPassed self.entry t.clock → result ≡ device_word (setting_with L self.entry) t }
+    {
+        let trace = self.lists.trace;
+        if trace.stamps.is_empty() {
+            return (t.clock % 65536) as u16;
+        }
+        let next = upcoming_at(trace.stamps, self.upcoming_record, t.clock);
+        word_before(trace.words, next)
+    }
+
+    // n cycles pass, with the upcoming stamps: the only thing that moves the clock, fills the slot and rings the alarm.
+    #[tactic(auto, using(crate::proofs::UpcomingLaws::request_upcoming), unfolding(definition::specs::Time::pass))]
     fn pass(self, t: Time, n: u64) -> Time
         ensures { (L : Layout) → t.clock + n ≤ clock_room → AtClock self.entry t.clock → result ≡ pass (setting_with L self.entry) n t }
     {
         let a = t.clock;
         let b = a.wrapping_add(n);
-        let request = earlier(happening(a, b, self.stamp()), happening(a, b, t.alarm));
+        let stamped = earlier(
+            happening(a, b, self.stamp()),
+            happening(a, b, self.record_stamp()),
+        );
+        let request = earlier(stamped, happening(a, b, t.alarm));
         Time {
             clock: b,
             slot: filled_by(t.slot, request),
@@ -195,7 +241,8 @@ impl<'a> Requests<'a> {
         }
     }
 
-    // n cycles pass, from an index before which the clock has passed all stamps.
+    // n cycles pass, from indices before which the clock has passed all stamps. Inlined by a hint, into each wait of a step (docs/PERFORMANCE.md).
+    #[inline(always)]
     pub fn wait(self, t: Time, n: u64) -> Time
         ensures { (L : Layout) → CanPass self.entry t.clock n → result ≡ pass (setting_with L self.entry) n t }
     {
@@ -213,7 +260,8 @@ impl<'a> Requests<'a> {
             Some(_) => alarm_until(masked, t.clock, t.alarm),
             None => {
                 let until = before_stamp(t.clock, t.alarm, LAST_CLOCK);
-                before_stamp(t.clock, self.stamp(), until)
+                let stamped = before_stamp(t.clock, self.stamp(), until);
+                before_stamp(t.clock, self.record_stamp(), stamped)
             }
         }
     }

@@ -1,6 +1,9 @@
-use Rattle.std.proofs.lemmas.List.{take_rest}
-use Rattle.clock.proofs.UpcomingLaws.{upcoming_counted}
+use Rattle.definition.proofs.time.TraceLaws.{trace_timed}
 use Rattle.clock.proofs.time.Requests.at.Goals as goal
 
 pub returns-clause-upcoming : goal.returns-clause-upcoming
-returns-clause-upcoming c = λ p. upcoming_counted _ _ _ _ (rw take_rest at c.count_passed.ensures.count) p c.args.self.timetable.tested
+returns-clause-upcoming c = λ h.
+    record {
+      stamps = c.upcoming_at.ensures.upcoming c.args.self.lists.timed h.stamps;
+      records = c.upcoming_at-2.ensures.upcoming (trace_timed _ c.args.self.lists.traced) h.records;
+    }
