@@ -1,6 +1,6 @@
 // The frame that every state the machine can be in keeps: what a caller hands in is tested for it.
 ghost use Rattle.std.specs.Prelude.{◌≡◌, ℕ, List};
-ghost use Rattle.definition.specs.Setting.{setting_of};
+ghost use Rattle.definition.specs.Setting.{Trace as TRACE, setting_of};
 ghost use Rattle.definition.specs.State.{framed_registers, framed_slot, framed_alarm, framed_context, framed};
 ghost use Rattle.storage.specs.Control.{with_registers};
 
@@ -51,7 +51,7 @@ fn context_fits(layout: Layout, saved: &[u16; 16], context: Option<SavedContext>
 // The state keeps the frame, with its registers and its saved registers lent.
 #[tactic(auto, unfolding(base::specs::Test::all, definition::specs::State::framed))]
 pub fn is_framed(control: Control, registers: &[u16; 16], saved: &[u16; 16], layout: Layout) -> bool
-    ensures { (stamps : List ℕ) → result ≡ framed (setting_of layout stamps) (with_registers registers.now saved.now control) }
+    ensures { (stamps : List ℕ) (trace : TRACE) → result ≡ framed (setting_of layout stamps trace) (with_registers registers.now saved.now control) }
 {
     registers_fit(registers)
         && is_even(control.previous)
@@ -63,7 +63,7 @@ pub fn is_framed(control: Control, registers: &[u16; 16], saved: &[u16; 16], lay
 // The state keeps the frame.
 #[tactic(auto, unfolding(base::specs::Test::all, definition::specs::Registers::register))]
 pub fn state_is_framed(m: State, layout: Layout) -> bool
-    ensures { (stamps : List ℕ) → result ≡ framed (setting_of layout stamps) m }
+    ensures { (stamps : List ℕ) (trace : TRACE) → result ≡ framed (setting_of layout stamps trace) m }
 {
     is_framed(Control::of(m), &m.registers, &m.saved, layout)
 }

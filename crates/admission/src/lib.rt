@@ -1,4 +1,4 @@
-// Whether a call is taken: the frame, and the refusals in number order.
+// Whether a call is taken: the frame, and the refusals in their order.
 #![tactic(auto)]
 
 pub mod frame;

@@ -1,17 +1,19 @@
-// Whether a call is taken: the refusals of what it takes, in number order.
+// Whether a call is taken: the refusals of what it takes, in their order.
 ghost use Rattle.std.specs.Prelude.{◌≡◌, leb};
 ghost use Rattle.base.specs.Limits.{last_clock, most_budget};
 ghost use Rattle.base.specs.Verdict.{verdict};
 ghost use Rattle.layout.specs.Rules.{accepted};
 ghost use Rattle.definition.specs.Setting.{setting_of};
 ghost use Rattle.definition.specs.State.{world};
-ghost use Rattle.definition.specs.Calls.{whole_memory, timetable, tests_found, budget_tests, transcript_tests, step_tests, run_tests};
+ghost use Rattle.definition.specs.Calls.{whole_memory, timetable, trace_fits, tests_found, budget_tests, transcript_tests, step_tests, run_tests};
 ghost use Rattle.storage.specs.Control.{with_registers};
+ghost use Rattle.clock.specs.Trace.{lent_trace};
 
 use crate::frame::{is_framed, state_is_framed};
 use base::limits::{LAST_CLOCK, MEMORY_BYTES, MOST_BUDGET};
 use base::refusal::Refusal;
 use clock::timetable::is_timetable;
+use clock::trace::Trace;
 use definition::state::State;
 use layout::sections::Layout;
 use storage::control::Control;
@@ -37,17 +39,18 @@ fn budget_allowed(budget: u64) -> bool
     budget <= MOST_BUDGET
 }
 
-// The first of the tests 1 to 6 that fails, by what each found.
+// The first of the tests 1 to 6 and 10 that fails, by what each found.
 #[tactic(auto, unfolding(base::specs::FirstFailure::first_failure, base::specs::Test::all))]
 fn first_refusal(
     whole: bool,
     fence: bool,
     rising: bool,
+    traced: bool,
     frame: bool,
     near: bool,
     early: bool,
 ) -> Result<(), Refusal>
-    ensures { result ≡ verdict (tests_found whole fence rising frame (budget_tests near) early) }
+    ensures { result ≡ verdict (tests_found whole fence rising traced frame (budget_tests near) early) }
 {
     if !whole {
         return Err(Refusal::Map);
@@ -57,6 +60,9 @@ fn first_refusal(
     }
     if !rising {
         return Err(Refusal::Timetable);
+    }
+    if !traced {
+        return Err(Refusal::Trace);
     }
     if !frame {
         return Err(Refusal::Frame);
@@ -71,20 +77,24 @@ fn first_refusal(
 }
 
 // The first test of a call that fails: the tests that every call makes, with what is found of frame, budget and clock.
+// Inlined by a hint: with two lists to test the compiler makes it a call, and a step call takes 70 instructions more (docs/PERFORMANCE.md).
+#[inline(always)]
 fn judge_call(
     mem: &[u8],
     layout: Layout,
     stamps: &[u64],
+    trace: Trace<'_>,
     frame: bool,
     near: bool,
     early: bool,
 ) -> Result<(), Refusal>
-    ensures { result ≡ verdict (tests_found (whole_memory mem.now) (accepted layout) (timetable stamps.now) frame (budget_tests near) early) }
+    ensures { result ≡ verdict (tests_found (whole_memory mem.now) (accepted layout) (timetable stamps.now) (trace_fits (lent_trace trace.entry)) frame (budget_tests near) early) }
 {
     first_refusal(
         memory_is_whole(mem),
         layout.accepted(),
         is_timetable(stamps),
+        trace.fits(),
         frame,
         near,
         early,
@@ -99,14 +109,16 @@ pub fn judge_run(
     mem: &[u8],
     layout: Layout,
     stamps: &[u64],
+    trace: Trace<'_>,
     budget: u64,
 ) -> Result<(), Refusal>
-    ensures { result ≡ verdict (run_tests (setting_of layout stamps.now) budget (world (with_registers registers.now saved.now control) mem.now)) }
+    ensures { result ≡ verdict (run_tests (setting_of layout stamps.now (lent_trace trace.entry)) budget (world (with_registers registers.now saved.now control) mem.now)) }
 {
     judge_call(
         mem,
         layout,
         stamps,
+        trace,
         is_framed(control, registers, saved, layout),
         budget_allowed(budget),
         clock_allowed(control.time.clock),
@@ -119,14 +131,16 @@ pub fn judge_transcript(
     mem: &[u8],
     layout: Layout,
     stamps: &[u64],
+    trace: Trace<'_>,
     budget: u64,
 ) -> Result<(), Refusal>
-    ensures { result ≡ verdict (transcript_tests (setting_of layout stamps.now) budget (world m mem.now)) }
+    ensures { result ≡ verdict (transcript_tests (setting_of layout stamps.now (lent_trace trace.entry)) budget (world m mem.now)) }
 {
     judge_call(
         mem,
         layout,
         stamps,
+        trace,
         state_is_framed(m, layout),
         budget_allowed(budget),
         true,
@@ -142,13 +156,15 @@ pub fn judge_step(
     mem: &[u8],
     layout: Layout,
     stamps: &[u64],
+    trace: Trace<'_>,
 ) -> Result<(), Refusal>
-    ensures { result ≡ verdict (step_tests (setting_of layout stamps.now) (world (with_registers registers.now saved.now control) mem.now)) }
+    ensures { result ≡ verdict (step_tests (setting_of layout stamps.now (lent_trace trace.entry)) (world (with_registers registers.now saved.now control) mem.now)) }
 {
     judge_call(
         mem,
         layout,
         stamps,
+        trace,
         is_framed(control, registers, saved, layout),
         true,
         clock_allowed(control.time.clock),

@@ -1,16 +1,18 @@
 // What callers can do: start, step, run. Whatever they hand in, they get the definition's answer or one numbered refusal.
-// Layout and stamps are handed in apart: behind the tests the stamps go on as a `Timetable` and the layout as it is, so a struct of the two would be
-// taken apart at once.
+// Layout and lists are handed in apart: behind the tests stamps and trace go on as `RequestLists` and the layout as it is, so a struct of all three
+// would be taken apart at once.
 ghost use Rattle.definition.specs.Setting.{setting_of};
 ghost use Rattle.definition.specs.State.{world};
 ghost use Rattle.definition.specs.Promises.{StartPromise, StepPromise, RunPromise};
 ghost use Rattle.storage.specs.Control.{with_registers};
+ghost use Rattle.clock.specs.Trace.{lent_trace};
 
 use admission::verdict::{judge_run, judge_step, memory_is_whole};
 use answers::answer::{Outcome, Stopped};
 use base::refusal::Refusal;
+use clock::lists::RequestLists;
 use clock::time::start_time;
-use clock::timetable::Timetable;
+use clock::trace::Trace;
 use definition::state::State;
 use inplace::in_place::one_step;
 use interrupt::service::{reset_address, reset_state};
@@ -50,8 +52,9 @@ impl Machine {
         mem: &mut [u8],
         layout: Layout,
         stamps: &[u64],
+        trace: Trace<'_>,
     ) -> Answered<Machine, Result<Outcome, Refusal>>
-        ensures { StepPromise (setting_of layout stamps.now) (world self.0 mem.old) (world result.machine.0 mem.new) result.answer }
+        ensures { StepPromise (setting_of layout stamps.now (lent_trace trace.entry)) (world self.0 mem.old) (world result.machine.0 mem.new) result.answer }
     {
         let mut registers = self.0.registers;
         let mut saved = self.0.saved;
@@ -62,6 +65,7 @@ impl Machine {
             mem,
             layout,
             stamps,
+            trace,
         );
         Answered {
             machine: Machine(stepped.machine.state(registers, saved)),
@@ -75,9 +79,10 @@ impl Machine {
         mem: &mut [u8],
         layout: Layout,
         stamps: &[u64],
+        trace: Trace<'_>,
         budget: u64,
     ) -> Answered<Machine, Result<Stopped, Refusal>>
-        ensures { RunPromise (setting_of layout stamps.now) budget (world self.0 mem.old) (world result.machine.0 mem.new) result.answer }
+        ensures { RunPromise (setting_of layout stamps.now (lent_trace trace.entry)) budget (world self.0 mem.old) (world result.machine.0 mem.new) result.answer }
     {
         let mut registers = self.0.registers;
         let mut saved = self.0.saved;
@@ -88,6 +93,7 @@ impl Machine {
             mem,
             layout,
             stamps,
+            trace,
             budget,
         );
         Answered {
@@ -106,17 +112,18 @@ pub fn step_in_place(
     mem: &mut [u8],
     layout: Layout,
     stamps: &[u64],
+    trace: Trace<'_>,
 ) -> Answered<Control, Result<Outcome, Refusal>>
-    ensures { StepPromise (setting_of layout stamps.now) (world (with_registers registers.old saved.old control) mem.old) (world (with_registers registers.new saved.new result.machine) mem.new) result.answer }
+    ensures { StepPromise (setting_of layout stamps.now (lent_trace trace.entry)) (world (with_registers registers.old saved.old control) mem.old) (world (with_registers registers.new saved.new result.machine) mem.new) result.answer }
 {
-    match judge_step(control, registers, saved, mem, layout, stamps) {
+    match judge_step(control, registers, saved, mem, layout, stamps, trace) {
         Err(refusal) => Answered {
             machine: control,
             answer: Err(refusal),
         },
         Ok(()) => {
-            let timetable = Timetable { stamps };
-            let requests = timetable.requests_at(control.time.clock);
+            let lists = RequestLists { stamps, trace };
+            let requests = lists.requests_at(control.time.clock);
             let moved = one_step(control, registers, saved, mem, layout, requests);
             Answered {
                 machine: moved.machine,
@@ -135,18 +142,21 @@ pub fn run_in_place(
     mem: &mut [u8],
     layout: Layout,
     stamps: &[u64],
+    trace: Trace<'_>,
     budget: u64,
 ) -> Answered<Control, Result<Stopped, Refusal>>
-    ensures { RunPromise (setting_of layout stamps.now) budget (world (with_registers registers.old saved.old control) mem.old) (world (with_registers registers.new saved.new result.machine) mem.new) result.answer }
+    ensures { RunPromise (setting_of layout stamps.now (lent_trace trace.entry)) budget (world (with_registers registers.old saved.old control) mem.old) (world (with_registers registers.new saved.new result.machine) mem.new) result.answer }
 {
-    match judge_run(control, registers, saved, mem, layout, stamps, budget) {
+    match judge_run(
+        control, registers, saved, mem, layout, stamps, trace, budget,
+    ) {
         Err(refusal) => Answered {
             machine: control,
             answer: Err(refusal),
         },
         Ok(()) => {
-            let timetable = Timetable { stamps };
-            run_steps(control, registers, saved, mem, layout, timetable, budget)
+            let lists = RequestLists { stamps, trace };
+            run_steps(control, registers, saved, mem, layout, lists, budget)
         }
     }
 }

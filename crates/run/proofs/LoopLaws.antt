@@ -3,17 +3,16 @@ use Rattle.std.proofs.Common.{◌≡◌, ℕ, zero, suc, ◌+◌, ◌-◌, ◌�
 use Rattle.base.proofs.Tests.{when_true, when_false}
 use Rattle.base.specs.Limits.{last_clock}
 use Rattle.layout.specs.declared.sections.Layout.{Layout}
-use Rattle.definition.specs.Setting.{Setting, setting_of}
+use Rattle.definition.specs.Setting.{Setting}
 use Rattle.definition.specs.declared.state.State.{State}
 use Rattle.answers.specs.declared.answer.End.{End}
 use Rattle.answers.specs.declared.answer.End.TheVariants.{Halted, Clock, Spent}
 use Rattle.definition.specs.State.{World}
 use Rattle.definition.specs.Run.{goes, stops, ending, run_from, run, stop_or}
-use Rattle.clock.specs.declared.timetable.Timetable.{Timetable}
 use Rattle.clock.specs.declared.time.Requests.{Requests}
 use Rattle.clock.specs.Upcoming.{step_room}
-use Rattle.clock.specs.Requests.{setting_with, HasPassed, AtClock, CanPass}
-use Rattle.clock.proofs.UpcomingLaws.{passed_later}
+use Rattle.clock.specs.Requests.{setting_by, setting_with, HasPassed, AtClock, CanPass}
+use Rattle.clock.proofs.UpcomingLaws.{requests_later, can_step}
 
 -- why the loop leaves, and where it does not
 pub ending_halted : (m : State) → m.halted ≡ true → ending m ≡ stops Halted
@@ -54,13 +53,13 @@ module _ (L : Layout) (budget : ℕ) where
     abbrev S : Setting
     S = setting_with L r
 
-    -- the requests of the same timetable
-    same : (next : Requests) → next.timetable ≡ r.timetable → setting_with L next ≡ S
-    same next e = ap (λ (z : Timetable). setting_of L z.stamps.now) e
+    -- the requests of the same lists
+    same : (next : Requests) → next.lists ≡ r.lists → setting_with L next ≡ S
+    same next e = ap (setting_by L) e
 
     -- a step of the loop
     pub loop_next : (k : ℕ) (next : World) → LoopStep S (budget - n) w k next → length next.memory ≡ length w.memory
-        → (further : Requests) → further.timetable ≡ r.timetable → AtClock further next.state.time.clock
+        → (further : Requests) → further.lists ≡ r.lists → AtClock further next.state.time.clock
         → LoopKeeps L budget from next (n + k) further
     loop_next k next u size further e p =
         let i = t.within in
@@ -99,8 +98,8 @@ module _ (L : Layout) (budget : ℕ) where
 
     -- what a step asks for
     pub loop_can_pass : w.state.time.clock ≤ last_clock → CanPass r w.state.time.clock step_room
-    loop_can_pass k = record { passed = t.here.passed; room = omega arith }
+    loop_can_pass k = can_step r w.state.time.clock k t.here
 
-    -- and what finding the next upcoming stamp asks for
+    -- and what finding the next upcoming stamps asks for
     pub loop_passed : (clock : ℕ) → w.state.time.clock ≤ clock → HasPassed r clock
-    loop_passed clock g = passed_later _ _ _ clock g t.here
+    loop_passed clock g = requests_later r w.state.time.clock clock g t.here

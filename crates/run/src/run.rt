@@ -1,7 +1,7 @@
 // Many steps: a run stops at the first of halted, clock above 2^62, budget spent.
 ghost use Rattle.std.specs.Prelude.{◌≡◌};
 ghost use Rattle.base.specs.Verdict.{unrefused};
-ghost use Rattle.definition.specs.Setting.{setting_of};
+ghost use Rattle.clock.specs.Requests.{setting_by};
 ghost use Rattle.definition.specs.State.{world};
 ghost use Rattle.definition.specs.Calls.{called, run_answered};
 ghost use Rattle.storage.specs.Control.{with_registers};
@@ -9,7 +9,7 @@ ghost use Rattle.storage.specs.Control.{with_registers};
 use answers::answer::{End, Stopped};
 use base::limits::LAST_CLOCK;
 use base::refusal::Refusal;
-use clock::timetable::Timetable;
+use clock::lists::RequestLists;
 use fast::steps::fast_steps;
 use inplace::in_place::{after_fast, fast_until, put_back};
 use layout::sections::Layout;
@@ -18,20 +18,20 @@ use storage::answered::Answered;
 use storage::control::Control;
 
 // The steps of a run, counted. Where there is a burst of fast steps it is taken, else one step, both as in `one_step` (docs/DECISIONS.md, *The loop
-// over step*); the index of the upcoming stamp goes along with the clock, and the registers stay where they lie.
+// over step*); the indices of the upcoming stamp and record go along with the clock, and the registers stay where they lie.
 pub fn run_steps(
     control: Control,
     registers: &mut [u16; 16],
     saved: &mut [u16; 16],
     mem: &mut [u8],
     layout: Layout,
-    timetable: Timetable<'_>,
+    lists: RequestLists<'_>,
     budget: u64,
 ) -> Answered<Control, Result<Stopped, Refusal>>
-    ensures { called (with_registers registers.new saved.new result.machine) mem.new result.answer ≡ run_answered (setting_of layout timetable.entry.stamps.now) budget (world (with_registers registers.old saved.old control) mem.old) unrefused }
+    ensures { called (with_registers registers.new saved.new result.machine) mem.new result.answer ≡ run_answered (setting_by layout lists.entry) budget (world (with_registers registers.old saved.old control) mem.old) unrefused }
 {
     let mut current = control;
-    let mut requests = timetable.requests_at(control.time.clock);
+    let mut requests = lists.requests_at(control.time.clock);
     let mut steps: u64 = 0;
     // Document 01 names this form: a loop over step that yields its ending by break.
     let end = loop {

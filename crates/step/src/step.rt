@@ -1,14 +1,17 @@
 // One step: judged, then acting, then its cycles, then the interrupt.
-ghost use Rattle.std.specs.Prelude.{◌≡◌, ◌≤◌};
+ghost use Rattle.std.specs.Prelude.{◌≡◌, ◌≤◌, ℕ, Bool, List};
+ghost use Rattle.layout.specs.declared.sections.Layout.{Layout as LAYOUT};
+ghost use Rattle.definition.specs.Time.{device_word};
+ghost use Rattle.definition.specs.Act.{registers_after};
 ghost use Rattle.definition.specs.State.{is_held};
 ghost use Rattle.interrupt.specs.StepResult.{step_result};
 ghost use Rattle.definition.specs.Step.{alarmed, is_hlt, saved_for, executed, ordinary, performed, step};
 ghost use Rattle.clock.specs.Upcoming.{clock_room, step_room};
-ghost use Rattle.clock.specs.Requests.{setting_with, CanPass};
+ghost use Rattle.clock.specs.Requests.{setting_with, HasPassed, CanPass};
 
 use act::instruction::{memory_after, registers_after};
 use answers::answer::Outcome;
-use clock::time::{Requests, device_word, set_alarm};
+use clock::time::{Requests, set_alarm};
 use definition::state::{SavedContext, State, Time};
 use interrupt::service::{due_stamp, reset, resume, serve};
 use isa::instruction::Instruction;
@@ -51,6 +54,17 @@ pub fn is_held(context: Option<SavedContext>) -> bool
     context.is_some()
 }
 
+// What IN gives, where the instruction is IN; no other looks at the device.
+#[tactic(auto, unfolding(definition::specs::Act::registers_after))]
+fn device_for(i: Instruction, requests: Requests<'_>, t: Time) -> u16
+    ensures { (L : LAYOUT) (inside : Bool) (rs mem : List ℕ) → HasPassed requests.entry t.clock → registers_after inside rs result mem i ≡ registers_after inside rs (device_word (setting_with L requests.entry) t) mem i }
+{
+    match i {
+        Instruction::In(_) => requests.device_word(t),
+        _ => 0,
+    }
+}
+
 // The machine after the instruction and its cycles; its address becomes the previous one.
 #[tactic(auto, unfolding(definition::specs::Step::executed, definition::specs::Time::pass))]
 fn execute(m: State, mem: &[u8], layout: Layout, requests: Requests<'_>, i: Instruction) -> State
@@ -58,8 +72,9 @@ fn execute(m: State, mem: &[u8], layout: Layout, requests: Requests<'_>, i: Inst
 {
     let pc = read_register(m.registers, 0);
     let after = requests.wait(m.time, u64::from(i.cycles()));
+    let device = device_for(i, requests, m.time);
     State {
-        registers: registers_after(layout.inside(pc), m.registers, device_word(m.time), mem, i),
+        registers: registers_after(layout.inside(pc), m.registers, device, mem, i),
         previous: pc,
         time: alarmed_time(m.registers, i, after),
         context: m.context,

@@ -11,7 +11,7 @@ use Rattle.run.proofs.run.run_steps.Goals as goal
 pub loop-current-init : goal.loop-current-init
 loop-current-init c =
     let found = c.requests_at-requests.ensures in
-    (loop_first _ _ _ _ found.upcoming, found.timetable)
+    (loop_first _ _ _ _ found.upcoming, found.lists)
 
 pub loop-current-preserved-then-burst-gt0 : goal.loop-current-preserved-then-burst-gt0
 loop-current-preserved-then-burst-gt0 c =
@@ -23,7 +23,7 @@ loop-current-preserved-then-burst-gt0 c =
     let led = burst_some _ _ _ _ b.result _ _ q some _ _ c.after_fast-current.ensures.1 _ c.after_fast-current.ensures.0 in
     let u = loop_step_fast _ _ _ _ _ led some b.ensures.within in
     let later = c.at-requests.ensures in
-    (loop_next _ _ _ _ _ _ t _ _ u c.mem-1.given _ later.timetable (later.upcoming (loop_passed _ _ _ _ _ _ t _ u.rises)), later.timetable ∙ l.invariant.1)
+    (loop_next _ _ _ _ _ _ t _ _ u c.mem-1.given _ later.lists (later.upcoming (loop_passed _ _ _ _ _ _ t _ u.rises)), later.lists ∙ l.invariant.1)
 
 pub loop-current-preserved : goal.loop-current-preserved
 loop-current-preserved c =
@@ -45,9 +45,9 @@ loop-current-preserved c =
     let u = loop_step_full S (p.budget - l.steps) _ _ c.if-current.false early (omega arith)
     (ap world_after g ∙ ap (λ (v : World). world_after (step_of S v)) z) in
     let later = c.at-requests-in-loop-current.ensures in (
-      loop_next _ _ _ _ _ _ t _ _ u (c.mem-in-loop-current-1.given ∙ c.mem-1.given) _ later.timetable
+      loop_next _ _ _ _ _ _ t _ _ u (c.mem-in-loop-current-1.given ∙ c.mem-1.given) _ later.lists
           (later.upcoming (loop_passed _ _ _ _ _ _ t _ u.rises)),
-      later.timetable ∙ l.invariant.1,
+      later.lists ∙ l.invariant.1,
     )
 
 pub returns-then-current : goal.returns-then-current

@@ -8,7 +8,7 @@ abbrev pub invariant-loop-current : goal.invariant-loop-current
 invariant-loop-current l =
     LoopKeeps l.layout l.budget (world (with_registers l.initial.registers l.initial.saved l.initial.current) l.initial.mem)
     (world (with_registers l.registers l.saved l.current) l.mem) l.steps l.requests
-    × (l.requests.timetable ≡ l.fn.timetable)
+    × (l.requests.lists ≡ l.fn.lists)
 
 abbrev pub decreases-loop-current : goal.decreases-loop-current
 decreases-loop-current l = l.budget - l.steps
