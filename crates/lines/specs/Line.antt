@@ -4,7 +4,7 @@ use Rattle.base.specs.Test.{when◌then◌else◌}
 use Rattle.base.specs.Word.{is_even}
 use Rattle.layout.specs.declared.sections.Span.{Span}
 use Rattle.lines.specs.declared.line.Content.{Content}
-use Rattle.lines.specs.declared.line.Content.TheVariants.{Layout, Word, Stamp, Budget}
+use Rattle.lines.specs.declared.line.Content.TheVariants.{Layout, Word, Stamp, Record, Budget}
 use Rattle.text.specs.Text.{tab, head, rest}
 use Rattle.text.specs.Number.{hex_of, decimal_of}
 
@@ -42,12 +42,23 @@ worded (Some a) (Some w) = when is_even a then Some (Word a w) else None
 unfoldable pub word_line : List ℕ → Option Content
 word_line fields = worded (hex_of (head fields tab)) (hex_of (rest fields tab))
 
--- by the letter: L, M, A and a stamp, G and the budget
+-- a stamp and a word
+abbrev pub recorded : Option ℕ → Option ℕ → Option Content
+recorded None w = None
+recorded (Some s) None = None
+recorded (Some s) (Some w) = Some (Record s w)
+
+-- T, a stamp and a word
+unfoldable pub record_line : List ℕ → Option Content
+record_line fields = recorded (decimal_of (head fields tab)) (hex_of (rest fields tab))
+
+-- by the letter: L, M, A and a stamp, T, G and the budget
 unfoldable pub by_letter : ℕ → List ℕ → Option Content
 by_letter letter fields =
     when eqb letter 0x4C then layout_line fields
     else when eqb letter 0x4D then word_line fields
     else when eqb letter 0x41 then option_map Stamp (decimal_of fields)
+    else when eqb letter 0x54 then record_line fields
     else when eqb letter 0x47 then option_map Budget (decimal_of fields)
     else None
 

@@ -1,18 +1,19 @@
 // What a line of the sheet says.
 ghost use Rattle.std.specs.Prelude.{◌≡◌};
-ghost use Rattle.lines.specs.Line.{span_of, layout_line, word_line, parse_line};
+ghost use Rattle.lines.specs.Line.{span_of, layout_line, word_line, record_line, parse_line};
 
 use base::word::is_even;
 use layout::sections::{Layout, Span};
 use text::number::{read_decimal, read_hex};
 use text::text::{head, rest};
 
-// What a line says: a layout, a word in memory, a stamp of the timetable, the budget.
+// What a line says: a layout, a word in memory, a stamp of the timetable, a record of the trace by its stamp and its word, the budget.
 #[derive(Clone, Copy)]
 pub enum Content {
     Layout(Layout),
     Word(u16, u16),
     Stamp(u64),
+    Record(u64, u16),
     Budget(u64),
 }
 
@@ -56,6 +57,17 @@ fn word_line(fields: &[u8]) -> Option<Content>
     None
 }
 
+// T, a stamp and a word.
+#[tactic(auto, unfolding(crate::specs::Line::record_line))]
+fn record_line(fields: &[u8]) -> Option<Content>
+    ensures { result ≡ record_line fields.now }
+{
+    Some(Content::Record(
+        read_decimal(head(fields, b'\t'))?,
+        read_hex(rest(fields, b'\t'))?,
+    ))
+}
+
 // A line by its letter: A and G take a decimal. Fields are parted by tabs.
 #[tactic(auto, using(text::proofs::Choices::choices), unfolding(crate::specs::Line::parse_line, crate::specs::Line::by_letter))]
 pub fn read_line(line: &[u8]) -> Option<Content>
@@ -69,6 +81,7 @@ pub fn read_line(line: &[u8]) -> Option<Content>
         b'L' => layout_line(fields),
         b'M' => word_line(fields),
         b'A' => read_decimal(fields).map(Content::Stamp),
+        b'T' => record_line(fields),
         b'G' => read_decimal(fields).map(Content::Budget),
         _ => None,
     }
