@@ -12,12 +12,14 @@ use denote.Ref.{Bor}
 use Rattle.base.specs.Limits.{memory_bytes}
 use Rattle.base.specs.Test.{when◌then◌else◌}
 use Rattle.base.proofs.Tests.{choices}
+use Rattle.definition.specs.Setting.{Trace, no_trace}
 use Rattle.definition.specs.Memory.{put_word}
 use Rattle.lines.specs.declared.line.Content.{Content}
 use Rattle.text.specs.Text.{newline, find, head, rest}
 use Rattle.text.proofs.Finding.{find_is}
 use Rattle.lines.specs.Line.{parse_line}
-use Rattle.loader.specs.Setup.{pieces, line_stored, memory_from, sheet_memory, stamp_of, stamps_from}
+use Rattle.loader.specs.Setup.{pieces, line_stored, memory_from, sheet_memory, stamp_of, stamps_from, record_of, trace_from}
+use Rattle.loader.specs.internal.Record.{with_record}
 
 -- ---- pieces
 
@@ -63,6 +65,11 @@ module _ (ps : List (List ℕ)) (i : ℕ) (p : List ℕ) (h : (i < length ps) ×
   unfolding stamps_from
   stamps_next said e = rw (piece_next, e) (stamp_before (parse_line p) _)
 
+  pub trace_next : (said : Option (ℕ × ℕ)) → ((t : Trace) → record_of (parse_line p) t ≡ with_record said t)
+      → trace_from (drop i ps) ≡ with_record said (trace_from (drop n ps))
+  unfolding trace_from
+  trace_next said e = rw piece_next (e _)
+
 -- no piece is left
 pub memory_end : (ps : List (List ℕ)) (i : ℕ) (mem : List ℕ) → length ps ≤ i → memory_from mem (drop i ps) ≡ mem
 unfolding memory_from
@@ -71,6 +78,10 @@ memory_end ps i mem h = rw (drop_of_length-le ps h)
 pub stamps_end : (ps : List (List ℕ)) (i : ℕ) → length ps ≤ i → stamps_from (drop i ps) ≡ []
 unfolding stamps_from
 stamps_end ps i h = rw (drop_of_length-le ps h)
+
+pub trace_end : (ps : List (List ℕ)) (i : ℕ) → length ps ≤ i → trace_from (drop i ps) ≡ no_trace
+unfolding trace_from
+trace_end ps i h = rw (drop_of_length-le ps h)
 
 -- lines keep memory's length
 stored_length : (line : Option Content) (mem : List ℕ) → length (line_stored line mem) ≡ length mem

@@ -1,1 +1,2 @@
 pub mod Setup
+pub mod internal

@@ -1,4 +1,4 @@
-// What a sheet sets up: its memory and its timetable, loaded into what is lent.
+// What a sheet sets up: its memory, its timetable and its trace, loaded into what is lent.
 #![tactic(auto)]
 
 pub mod load;

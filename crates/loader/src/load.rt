@@ -1,9 +1,11 @@
-// The memory and the timetable that a sheet sets up: two calls, since the two are lent apart.
+// The memory, the timetable and the trace that a sheet sets up: a call for each, since they are lent apart.
 ghost use Rattle.std.specs.Prelude.{◌≡◌, [], length, set, option_to_list};
 ghost use Rattle.std.proofs.lemmas.List.Edits.{sets};
 ghost use Rattle.base.specs.Limits.{memory_bytes};
 ghost use Rattle.lines.specs.Line.{parse_line};
-ghost use Rattle.loader.specs.Setup.{pieces, line_stored, memory_from, sheet_memory, stamp_of, sheet_stamps};
+ghost use Rattle.definition.specs.Setting.{Trace};
+ghost use Rattle.loader.specs.Setup.{pieces, line_stored, memory_from, sheet_memory, stamp_of, sheet_stamps, record_of, sheet_trace};
+ghost use Rattle.loader.specs.internal.Record.{with_record};
 
 use base::limits::MEMORY_BYTES;
 use base::place::put_at;
@@ -59,6 +61,33 @@ pub fn load_stamps(stamps: &mut [u64], sheet: &[u8])
         if let Some(stamp) = stamp_of(line) {
             put_at(stamps, count, stamp);
             count += 1;
+        }
+    }
+}
+
+// The record of a T line: its stamp and its word.
+fn record_of(line: &[u8]) -> Option<(u64, u16)>
+    ensures { (t : Trace) → record_of (parse_line line.now) t ≡ with_record result t }
+{
+    match read_line(line) {
+        Some(Content::Record(stamp, word)) => Some((stamp, word)),
+        _ => None,
+    }
+}
+
+// The sheet's trace: the records of the T lines in order, their stamps and their words each at the front of what is lent, as far as it goes.
+#[tactic(auto, unfolding(crate::specs::Setup::sheet_trace))]
+pub fn load_trace(stamps: &mut [u64], words: &mut [u16], sheet: &[u8])
+    ensures stamps { stamps.new ≡ sets stamps.old 0 (sheet_trace sheet.now).stamps }
+    ensures words { words.new ≡ sets words.old 0 (sheet_trace sheet.now).words }
+{
+    // By the index, as for a timetable.
+    let mut records = 0;
+    for line in sheet.split(|b| *b == b'\n') {
+        if let Some((stamp, word)) = record_of(line) {
+            put_at(stamps, records, stamp);
+            put_at(words, records, word);
+            records += 1;
         }
     }
 }

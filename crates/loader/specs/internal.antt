@@ -1,0 +1,2 @@
+-- What no promise to a caller rests on.
+pub mod Record
