@@ -8,11 +8,11 @@ use Rattle.base.proofs.Tests.{choices}
 use Rattle.layout.specs.declared.sections.Layout.{Layout}
 use Rattle.lines.specs.declared.line.Content.{Content}
 use Rattle.lines.specs.declared.line.Content.TheVariants.{Layout as Layouts}
-use Rattle.sheet.specs.declared.reader.StampsSoFar.{StampsSoFar}
+use Rattle.sheet.specs.declared.reader.ListsSoFar.{ListsSoFar}
 use Rattle.text.specs.Text.{newline, find, head, rest}
 use Rattle.lines.specs.Line.{parse_line}
 use Rattle.loader.specs.Setup.{pieces}
-use Rattle.sheet.specs.Sheet.{none_follows, nothing_follows, Answer, refused, stage_of, unless_stopped, if_parsed, body_from, first_of, if_layout, lines_answer, sheet_answer, sheet_refusal, refused_line, SheetPromise}
+use Rattle.sheet.specs.Sheet.{none_follows, nothing_follows, Answer, refused, no_lists, stage_of, unless_stopped, if_parsed, body_from, first_of, if_layout, lines_answer, sheet_answer, sheet_refusal, refused_line, SheetPromise}
 use Rattle.loader.proofs.SetupLaws.{pieces_here, pieces_last}
 
 -- ---- pieces
@@ -38,35 +38,35 @@ rest_shorter s h = rw (length-drop (find s newline + 1) s) (omega arith)
 
 -- ---- the lines after L
 
-module _ (L : Layout) (n : ℕ) (stamps : StampsSoFar) (s : List ℕ) where
-  pub body_last : length s ≤ find s newline → body_from L n stamps (pieces s) ≡ refused LineRefusal n
+module _ (L : Layout) (n : ℕ) (lists : ListsSoFar) (s : List ℕ) where
+  pub body_last : length s ≤ find s newline → body_from L n lists (pieces s) ≡ refused LineRefusal n
   unfolding body_from when◌then◌else◌
   body_last h = rw (pieces_last s h)
 
   module _ (h : find s newline < length s) where
-    body_here : body_from L n stamps (pieces s)
+    body_here : body_from L n lists (pieces s)
         ≡ if_parsed n (parse_line (head s newline))
-        (λ content. unless_stopped (stage_of L n stamps content (eqb (length (rest s newline)) 0))
+        (λ content. unless_stopped (stage_of L n lists content (eqb (length (rest s newline)) 0))
         (λ more. body_from L (n + 1) more (pieces (rest s newline))))
     unfolding body_from
     body_here =
         grind (arith, choices, pieces_here s h, pieces_filled (rest s newline), pieces_nothing (rest s newline))
 
-    pub body_unreadable : parse_line (head s newline) ≡ None → body_from L n stamps (pieces s) ≡ refused LineRefusal n
+    pub body_unreadable : parse_line (head s newline) ≡ None → body_from L n lists (pieces s) ≡ refused LineRefusal n
     body_unreadable e = body_here ∙ rw e
 
     module _ (content : Content) (e : parse_line (head s newline) ≡ Some content) where
-      body_content : body_from L n stamps (pieces s)
-          ≡ unless_stopped (stage_of L n stamps content (eqb (length (rest s newline)) 0))
+      body_content : body_from L n lists (pieces s)
+          ≡ unless_stopped (stage_of L n lists content (eqb (length (rest s newline)) 0))
           (λ more. body_from L (n + 1) more (pieces (rest s newline)))
       body_content = body_here ∙ rw e
 
-      pub body_stops : (a : Answer) → stage_of L n stamps content (eqb (length (rest s newline)) 0) ≡ Break a
-          → body_from L n stamps (pieces s) ≡ a
+      pub body_stops : (a : Answer) → stage_of L n lists content (eqb (length (rest s newline)) 0) ≡ Break a
+          → body_from L n lists (pieces s) ≡ a
       body_stops a g = body_content ∙ rw g
 
-      pub body_goes : (more : StampsSoFar) → stage_of L n stamps content (eqb (length (rest s newline)) 0) ≡ Continue more
-          → body_from L n stamps (pieces s) ≡ body_from L (n + 1) more (pieces (rest s newline))
+      pub body_goes : (more : ListsSoFar) → stage_of L n lists content (eqb (length (rest s newline)) 0) ≡ Continue more
+          → body_from L n lists (pieces s) ≡ body_from L (n + 1) more (pieces (rest s newline))
       body_goes more g = body_content ∙ rw g
 
 -- ---- the first line
@@ -79,7 +79,7 @@ module _ (s : List ℕ) where
   pub first_here : find s newline < length s
       → lines_answer (pieces s)
       ≡ if_parsed 1 (parse_line (head s newline))
-      (λ content. if_layout (first_of content) (λ L. body_from L 2 (record { last = 0; count = 0 }) (pieces (rest s newline))))
+      (λ content. if_layout (first_of content) (λ L. body_from L 2 no_lists (pieces (rest s newline))))
   unfolding lines_answer
   first_here h = grind (arith, choices, pieces_here s h, pieces_filled (rest s newline))
 

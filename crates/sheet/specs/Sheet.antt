@@ -4,16 +4,17 @@ use Rattle.std.specs.declared.ops.ControlFlow.{ControlFlow}
 use Rattle.std.specs.declared.ops.ControlFlow.TheVariants.{Continue, Break}
 use Rattle.base.specs.Test.{when◌then◌else◌, all}
 use Rattle.base.specs.declared.refusal.Refusal.{Refusal}
-use Rattle.base.specs.declared.refusal.Refusal.TheVariants.{Fence, Timetable, Distance, Line as LineRefusal, Sheet as TooLong}
+use Rattle.base.specs.declared.refusal.Refusal.TheVariants.{Fence, Timetable, Distance, Line as LineRefusal, Sheet as TooLong, Trace as TraceRefusal}
 use Rattle.base.specs.Limits.{last_clock, most_stamps, most_budget, most_sheet_bytes}
 use Rattle.base.specs.Refusal.{refusal_number}
 use Rattle.layout.specs.declared.sections.Layout.{Layout}
 use Rattle.layout.specs.Rules.{accepted}
 use Rattle.lines.specs.declared.line.Content.{Content}
-use Rattle.lines.specs.declared.line.Content.TheVariants.{Layout as Layouts, Word, Stamp, Budget}
+use Rattle.lines.specs.declared.line.Content.TheVariants.{Layout as Layouts, Word, Stamp, Record, Budget}
 use Rattle.sheet.specs.declared.reader.Setup.{Setup}
 use Rattle.base.specs.declared.refusal.SheetRefusal.{SheetRefusal}
 use Rattle.sheet.specs.declared.reader.StampsSoFar.{StampsSoFar}
+use Rattle.sheet.specs.declared.reader.ListsSoFar.{ListsSoFar}
 use Rattle.lines.specs.Line.{parse_line}
 use Rattle.loader.specs.Setup.{pieces}
 
@@ -40,30 +41,51 @@ Answer = Result Setup SheetRefusal
 abbrev pub refused : Refusal → ℕ → Answer
 refused r line = Err (record { refusal = r; line = line })
 
--- a stamp of the timetable: not too many, rising, at most 2^62
-unfoldable pub fits_timetable : StampsSoFar → ℕ → Bool
-fits_timetable stamps s = all (ltb stamps.count most_stamps ∷ ltb stamps.last s ∷ leb s last_clock ∷ [])
+-- the next stamp of a list: not too many, rising, at most 2^62
+unfoldable pub fits_list : StampsSoFar → ℕ → Bool
+fits_list stamps s = all (ltb stamps.count most_stamps ∷ ltb stamps.last s ∷ leb s last_clock ∷ [])
+
+-- a list without a stamp
+abbrev pub no_stamps : StampsSoFar
+no_stamps = record { last = 0; count = 0 }
+
+-- a list with a stamp more
+abbrev pub with_stamp : StampsSoFar → ℕ → StampsSoFar
+with_stamp stamps s = record { last = s; count = stamps.count + 1 }
+
+-- the two lists before the first stamp of either
+abbrev pub no_lists : ListsSoFar
+no_lists = record { timetable = no_stamps; trace = no_stamps }
+
+-- each list by itself, with a stamp more
+abbrev pub with_timetable : ListsSoFar → ℕ → ListsSoFar
+with_timetable lists s = record { timetable = with_stamp lists.timetable s; trace = lists.trace }
+
+abbrev pub with_trace : ListsSoFar → ℕ → ListsSoFar
+with_trace lists s = record { timetable = lists.timetable; trace = with_stamp lists.trace s }
 
 module _ (L : Layout) (n : ℕ) where
   -- G at line n: nothing may follow it
-  unfoldable pub budget_answer : ℕ → ℕ → Bool → Answer
-  budget_answer count b last =
+  unfoldable pub budget_answer : ListsSoFar → ℕ → Bool → Answer
+  budget_answer lists b last =
       when leb b most_budget then
-      when last then Ok (record { layout = L; stamps = count; budget = b })
+      when last then Ok (record { layout = L; stamps = lists.timetable.count; records = lists.trace.count; budget = b })
       else refused LineRefusal (n + 1)
       else refused Distance n
 
-  -- a line after the first, by what it says: the stamps so far go along
-  unfoldable pub stage_of : StampsSoFar → Content → Bool → ControlFlow Answer StampsSoFar
-  stage_of stamps (Layouts M) ends = Break (refused LineRefusal n)
-  stage_of stamps (Word a w) ends = Continue stamps
-  stage_of stamps (Stamp s) ends =
-      when fits_timetable stamps s then Continue (record { last = s; count = stamps.count + 1 }) else Break (refused Timetable n)
-  stage_of stamps (Budget b) ends = Break (budget_answer stamps.count b ends)
+  -- a line after the first, by what it says: the lists so far go along, and each takes its own stamps
+  unfoldable pub stage_of : ListsSoFar → Content → Bool → ControlFlow Answer ListsSoFar
+  stage_of lists (Layouts M) ends = Break (refused LineRefusal n)
+  stage_of lists (Word a w) ends = Continue lists
+  stage_of lists (Stamp s) ends =
+      when fits_list lists.timetable s then Continue (with_timetable lists s) else Break (refused Timetable n)
+  stage_of lists (Record s w) ends =
+      when fits_list lists.trace s then Continue (with_trace lists s) else Break (refused TraceRefusal n)
+  stage_of lists (Budget b) ends = Break (budget_answer lists b ends)
 
 -- where the lines stop, or what the further ones say
-abbrev pub unless_stopped : ControlFlow Answer StampsSoFar → (StampsSoFar → Answer) → Answer
-unless_stopped (Continue stamps) further = further stamps
+abbrev pub unless_stopped : ControlFlow Answer ListsSoFar → (ListsSoFar → Answer) → Answer
+unless_stopped (Continue lists) further = further lists
 unless_stopped (Break a) further = a
 
 -- a line that cannot be read is bad
@@ -72,18 +94,19 @@ if_parsed n None further = refused LineRefusal n
 if_parsed n (Some content) further = further content
 
 -- the lines from line n on, L being read; one that is missing counts at the place after the last
-unfoldable pub body_from : Layout → ℕ → StampsSoFar → List (List ℕ) → Answer
-body_from L n stamps [] = refused LineRefusal n
-body_from L n stamps (p ∷ ps) =
+unfoldable pub body_from : Layout → ℕ → ListsSoFar → List (List ℕ) → Answer
+body_from L n lists [] = refused LineRefusal n
+body_from L n lists (p ∷ ps) =
     when none_follows ps then refused LineRefusal n
     else if_parsed n (parse_line p)
-    (λ content. unless_stopped (stage_of L n stamps content (nothing_follows ps)) (λ more. body_from L (n + 1) more ps))
+    (λ content. unless_stopped (stage_of L n lists content (nothing_follows ps)) (λ more. body_from L (n + 1) more ps))
 
 -- the first line is L
 abbrev pub first_of : Content → Option Layout
 first_of (Layouts L) = Some L
 first_of (Word a w) = None
 first_of (Stamp s) = None
+first_of (Record s w) = None
 first_of (Budget b) = None
 
 -- and keeps every rule of a layout
@@ -96,7 +119,7 @@ unfoldable pub lines_answer : List (List ℕ) → Answer
 lines_answer [] = refused LineRefusal 1
 lines_answer (p ∷ ps) =
     when none_follows ps then refused LineRefusal 1
-    else if_parsed 1 (parse_line p) (λ content. if_layout (first_of content) (λ L. body_from L 2 (record { last = 0; count = 0 }) ps))
+    else if_parsed 1 (parse_line p) (λ content. if_layout (first_of content) (λ L. body_from L 2 no_lists ps))
 
 -- a sheet above 32,768 bytes is refused before all
 unfoldable pub sheet_answer : List ℕ → Answer

@@ -3,7 +3,7 @@ ghost use Rattle.std.specs.Prelude.{◌≡◌, ◌≤◌, ◌+◌, None, Some, l
 ghost use Rattle.base.specs.Limits.{most_sheet_bytes};
 ghost use Rattle.base.specs.Test.{when◌then◌else◌};
 ghost use Rattle.loader.specs.Setup.{pieces};
-ghost use Rattle.sheet.specs.Sheet.{fits_timetable, budget_answer, stage_of, body_from, SheetPromise};
+ghost use Rattle.sheet.specs.Sheet.{fits_list, with_stamp, no_lists, budget_answer, stage_of, body_from, SheetPromise};
 
 use base::limits::{LAST_CLOCK, MOST_BUDGET, MOST_SHEET_BYTES, MOST_STAMPS};
 use base::refusal::{Refusal, SheetRefusal};
@@ -12,27 +12,38 @@ use lines::line::{Content, read_line};
 use std::ops::ControlFlow;
 use text::text::{head, holds_byte, rest};
 
-// What a sheet sets up: the layout, how many stamps the timetable has, the budget. The count and no Vec: the machine takes no heap, so the
-// stamps are loaded into the front of what a caller lends.
+// What a sheet sets up: the layout, how many stamps the timetable has, how many records the trace, the budget. The counts and no Vec: the machine
+// takes no heap, so stamps and records are loaded into the front of what a caller lends.
 #[derive(Clone, Copy)]
 pub struct Setup {
     pub layout: Layout,
     pub stamps: usize,
+    pub records: usize,
     pub budget: u64,
 }
 
-// The stamps so far: the last one, and how many. Before the first the last is 0, which is below every stamp.
+// A list's stamps so far: the last one, and how many. Before the first the last is 0, which is below every stamp.
 #[derive(Clone, Copy)]
 pub struct StampsSoFar {
     pub last: u64,
     pub count: usize,
 }
 
+// The two lists so far: the stamps of the timetable, and those of the trace's records. Each rises by itself.
+#[derive(Clone, Copy)]
+pub struct ListsSoFar {
+    pub timetable: StampsSoFar,
+    pub trace: StampsSoFar,
+}
+
+// A list without a stamp.
+const NO_STAMPS: StampsSoFar = StampsSoFar { last: 0, count: 0 };
+
 impl StampsSoFar {
-    // With another stamp, where the timetable takes it: not too many, rising, at most 2^62.
-    #[tactic(auto, using(text::proofs::Choices::choices), unfolding(crate::specs::Sheet::fits_timetable, base::specs::Test::all))]
+    // With another stamp, where the list takes it: not too many, rising, at most 2^62.
+    #[tactic(auto, using(text::proofs::Choices::choices), unfolding(crate::specs::Sheet::fits_list, base::specs::Test::all))]
     fn with(self, stamp: u64) -> Option<StampsSoFar>
-        ensures { result ≡ (when fits_timetable self stamp then Some (record { last = stamp; count = self.count + 1 }) else None) }
+        ensures { result ≡ (when fits_list self stamp then Some (with_stamp self stamp) else None) }
     {
         if self.count < MOST_STAMPS && self.last < stamp && stamp <= LAST_CLOCK {
             return Some(StampsSoFar {
@@ -49,12 +60,12 @@ impl StampsSoFar {
 fn budget_answer(
     layout: Layout,
     n: u64,
-    count: usize,
+    lists: ListsSoFar,
     budget: u64,
     last: bool,
 ) -> Result<Setup, SheetRefusal>
     requires { n ≤ most_sheet_bytes + 2 }
-    ensures { result ≡ budget_answer layout n count budget last }
+    ensures { result ≡ budget_answer layout n lists budget last }
 {
     if budget > MOST_BUDGET {
         return Err(SheetRefusal::new(Refusal::Distance, n));
@@ -64,32 +75,37 @@ fn budget_answer(
     }
     Ok(Setup {
         layout,
-        stamps: count,
+        stamps: lists.timetable.count,
+        records: lists.trace.count,
         budget,
     })
 }
 
-// A line after the first, by what it says: the reading goes on with the stamps so far, or ends with the answer.
+// A line after the first, by what it says: the reading goes on with the lists so far, or ends with the answer.
 #[tactic(auto, using(text::proofs::Choices::choices), unfolding(crate::specs::Sheet::stage_of))]
 fn read_stage(
     layout: Layout,
     n: u64,
-    stamps: StampsSoFar,
+    lists: ListsSoFar,
     content: Content,
     ends: bool,
-) -> ControlFlow<Result<Setup, SheetRefusal>, StampsSoFar>
+) -> ControlFlow<Result<Setup, SheetRefusal>, ListsSoFar>
     requires { n ≤ most_sheet_bytes + 2 }
-    ensures { result ≡ stage_of layout n stamps content ends }
+    ensures { result ≡ stage_of layout n lists content ends }
 {
     match content {
         Content::Layout(_) => ControlFlow::Break(Err(SheetRefusal::new(Refusal::Line, n))),
-        Content::Word(_, _) => ControlFlow::Continue(stamps),
-        Content::Stamp(stamp) => match stamps.with(stamp) {
-            Some(more) => ControlFlow::Continue(more),
+        Content::Word(_, _) => ControlFlow::Continue(lists),
+        Content::Stamp(stamp) => match lists.timetable.with(stamp) {
+            Some(timetable) => ControlFlow::Continue(ListsSoFar { timetable, ..lists }),
             None => ControlFlow::Break(Err(SheetRefusal::new(Refusal::Timetable, n))),
         },
+        Content::Record(stamp, _) => match lists.trace.with(stamp) {
+            Some(trace) => ControlFlow::Continue(ListsSoFar { trace, ..lists }),
+            None => ControlFlow::Break(Err(SheetRefusal::new(Refusal::Trace, n))),
+        },
         Content::Budget(budget) => {
-            ControlFlow::Break(budget_answer(layout, n, stamps.count, budget, ends))
+            ControlFlow::Break(budget_answer(layout, n, lists, budget, ends))
         }
     }
 }
@@ -100,19 +116,22 @@ fn read_stage(
 #[tactic(auto, using(text::proofs::Choices::choices, crate::proofs::SheetLaws::body_steps))]
 fn read_body(layout: Layout, body: &[u8]) -> Result<Setup, SheetRefusal>
     requires { length body.now ≤ most_sheet_bytes }
-    ensures { result ≡ body_from layout 2 (record { last = 0; count = 0 }) (pieces body.now) }
+    ensures { result ≡ body_from layout 2 no_lists (pieces body.now) }
 {
     let mut left = body;
     let mut n: u64 = 2;
-    let mut stamps = StampsSoFar { last: 0, count: 0 };
+    let mut lists = ListsSoFar {
+        timetable: NO_STAMPS,
+        trace: NO_STAMPS,
+    };
     while holds_byte(left, b'\n') {
         let after = rest(left, b'\n');
         let Some(content) = read_line(head(left, b'\n')) else {
             return Err(SheetRefusal::new(Refusal::Line, n));
         };
-        match read_stage(layout, n, stamps, content, after.is_empty()) {
+        match read_stage(layout, n, lists, content, after.is_empty()) {
             ControlFlow::Break(answer) => return answer,
-            ControlFlow::Continue(more) => stamps = more,
+            ControlFlow::Continue(more) => lists = more,
         }
         left = after;
         n += 1;
