@@ -3,7 +3,7 @@ use Rattle.std.specs.Prelude.{ℕ, ◌≡◌, List, [], ◌∷◌, ◌++◌, eqb
 use Rattle.std.proofs.lemmas.List.Edits.{sets}
 use Rattle.base.specs.Test.{when◌then◌else◌}
 use Rattle.base.specs.declared.refusal.Refusal.{Refusal}
-use Rattle.base.specs.declared.refusal.Refusal.TheVariants.{Map, Fence, Timetable, Frame, Distance, Clock, Line, Sheet, Word}
+use Rattle.base.specs.declared.refusal.Refusal.TheVariants.{Map, Fence, Timetable, Frame, Distance, Clock, Line, Sheet, Word, Trace}
 use Rattle.base.specs.Refusal.{refusal_number}
 use Rattle.transcript.specs.Transcript.{decimal_bytes, parts}
 
@@ -12,7 +12,7 @@ unfoldable pub line_label : ℕ → List ℕ
 line_label line =
     when eqb line 0 then [] else parts (codes "line " ∷ decimal_bytes line ∷ codes ": " ∷ [])
 
--- document 01's word for a refusal
+-- the papers' word for a refusal
 unfoldable pub refusal_word : Refusal → List ℕ
 refusal_word Map = codes "map"
 refusal_word Fence = codes "fence"
@@ -23,6 +23,7 @@ refusal_word Clock = codes "clock"
 refusal_word Line = codes "line"
 refusal_word Sheet = codes "sheet"
 refusal_word Word = codes "word"
+refusal_word Trace = codes "trace"
 
 -- a space, the refusal's number and word in brackets, and the newline
 unfoldable pub refusal_label : Refusal → List ℕ

@@ -42,6 +42,7 @@ fn label_of(refusal: Refusal) -> &'static [u8]
         Refusal::Line => b" (7 line)\n",
         Refusal::Sheet => b" (8 sheet)\n",
         Refusal::Word => b" (9 word)\n",
+        Refusal::Trace => b" (10 trace)\n",
     }
 }
 

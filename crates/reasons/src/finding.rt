@@ -3,7 +3,7 @@ use crate::fence::fence_reason;
 use crate::line::line_reason;
 use crate::part::line_at;
 use crate::reason::{Place, Reason, Text};
-use crate::timetable::stamp_reason;
+use crate::stamp::stamp_reason;
 use base::refusal::{Refusal, SheetRefusal};
 
 // What is wrong.
@@ -11,7 +11,7 @@ pub fn reason_of(sheet: &[u8], refused: SheetRefusal) -> Reason {
     let line = refused.line;
     match refused.refusal {
         Refusal::Fence => fence_reason(line_at(sheet, line)),
-        Refusal::Timetable => stamp_reason(sheet, line),
+        Refusal::Timetable | Refusal::Trace => stamp_reason(sheet, line),
         Refusal::Distance => Reason::quoting(Text::BudgetHigh, Place::new(line, 1)),
         Refusal::Line => line_reason(sheet, line),
         Refusal::Sheet => Reason::plain(Text::TooLong),

@@ -6,4 +6,4 @@ pub mod finding;
 mod line;
 pub mod part;
 pub mod reason;
-mod timetable;
+mod stamp;

@@ -27,6 +27,7 @@ fn letter_reason(line: &[u8], n: u64) -> Reason {
         Some(b'L') => Reason::plain(Text::Line(LineText::SecondL)),
         Some(b'M') => word_reason(line, n),
         Some(b'A') => Reason::plain(Text::Line(LineText::AForm)),
+        Some(b'T') => Reason::plain(Text::Line(LineText::TForm)),
         Some(b'G') => Reason::plain(Text::Line(LineText::GForm)),
         _ => Reason::plain(Text::Line(LineText::NoLetter)),
     }

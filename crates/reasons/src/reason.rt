@@ -162,6 +162,7 @@ pub enum LineText {
     MForm,
     MOdd,
     AForm,
+    TForm,
     GForm,
     NoLetter,
 }
@@ -193,11 +194,14 @@ impl LineText {
             LineText::AForm => {
                 b"A takes a stamp, a decimal of at most 19 digits without a leading zero, after a single tab"
             }
+            LineText::TForm => {
+                b"T takes a stamp, a decimal of at most 19 digits without a leading zero, and a word, four hexadecimal digits in capitals, parted by single tabs"
+            }
             LineText::GForm => {
                 b"G takes a budget, a decimal of at most 19 digits without a leading zero, after a single tab"
             }
             LineText::NoLetter => {
-                b"a line begins with L, M, A or G and a tab, and this one does not"
+                b"a line begins with L, M, A, T or G and a tab, and this one does not"
             }
         }
     }

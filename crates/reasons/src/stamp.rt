@@ -1,10 +1,10 @@
-// Why a stamp is refused.
+// Why a stamp is refused, of the timetable or of the trace: each list's lines have a letter of their own.
 use crate::part::{field, letter, line_at};
 use crate::reason::{Place, Reason, StampText, Text};
 use base::limits::{LAST_CLOCK, MOST_STAMPS};
 use text::number::read_decimal;
 
-// The A lines so far, as many as a timetable takes: how many, and the last stamp's place.
+// The lines of a list so far, as many as it takes: how many, and the last stamp's place.
 #[derive(Clone, Copy)]
 struct Stamps {
     count: usize,
@@ -12,9 +12,9 @@ struct Stamps {
 }
 
 impl Stamps {
-    // With line n.
-    fn with(self, line: &[u8], n: u64) -> Stamps {
-        if MOST_STAMPS <= self.count || letter(line) != Some(b'A') {
+    // With line n, where it has the list's letter.
+    fn with(self, list: Option<u8>, line: &[u8], n: u64) -> Stamps {
+        if MOST_STAMPS <= self.count || letter(line) != list {
             return self;
         }
         Stamps {
@@ -24,16 +24,17 @@ impl Stamps {
     }
 }
 
-// The A lines before a line.
+// The lines of a line's own list that stand before it.
 fn stamps_before(sheet: &[u8], line: u64) -> Stamps {
     let none = Stamps {
         count: 0,
         last: None,
     };
+    let list = letter(line_at(sheet, line));
     sheet
         .split(|b| *b == b'\n')
         .zip(1..line)
-        .fold(none, |seen, (text, n)| seen.with(text, n))
+        .fold(none, |seen, (text, n)| seen.with(list, text, n))
 }
 
 // Why the stamp of a line is refused.
