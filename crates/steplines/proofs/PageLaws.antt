@@ -7,7 +7,7 @@ use Rattle.layout.specs.declared.sections.Layout.{Layout}
 use Rattle.base.specs.Test.{when◌then◌else◌}
 use Rattle.base.specs.Limits.{last_clock}
 use Rattle.base.proofs.Tests.{when_true, when_false}
-use Rattle.definition.specs.Setting.{Setting, setting_of}
+use Rattle.definition.specs.Setting.{Setting}
 use Rattle.answers.specs.declared.answer.End.{End}
 use Rattle.answers.specs.declared.answer.End.TheVariants.{Halted, Clock, Spent}
 use Rattle.answers.specs.declared.answer.Outcome.{Outcome}
@@ -20,10 +20,10 @@ use Rattle.storage.specs.Control.{with_registers}
 use Rattle.definition.proofs.step.CycleLaws.{clock_rises}
 use Rattle.steplines.specs.declared.steps.StepsWritten.{StepsWritten}
 use Rattle.transcript.specs.Transcript.{end_line}
-use Rattle.clock.specs.declared.timetable.Timetable.{Timetable}
+use Rattle.clock.specs.declared.lists.RequestLists.{RequestLists}
 use Rattle.clock.specs.declared.time.Requests.{Requests}
-use Rattle.clock.specs.Requests.{setting_with, HasPassed, AtClock}
-use Rattle.clock.proofs.UpcomingLaws.{passed_later}
+use Rattle.clock.specs.Requests.{setting_by, setting_with, HasPassed, AtClock}
+use Rattle.clock.proofs.UpcomingLaws.{requests_later}
 use Rattle.transcript.proofs.TranscriptLaws.{Put, put_then}
 use Rattle.steplines.specs.declared.remaining.Remaining.{Remaining}
 use Rattle.steplines.specs.declared.remaining.Remaining.TheVariants.{Steps, Nothing}
@@ -128,14 +128,14 @@ module _ (L : Layout) (start made budget : ℕ) (from : World) (entry : List ℕ
         → (m : State) (bytes : List ℕ) (o : Outcome) → gives m bytes o ≡ step_of S w
         → length bytes ≡ length w.memory → (further : List ℕ) (next : ℕ) → next ≤ length out
         → Put out further filled next (line_of (steps + 1) (gives m bytes o))
-        → (later : Requests) → later.timetable ≡ r.timetable → AtClock later m.time.clock
+        → (later : Requests) → later.lists ≡ r.lists → AtClock later m.time.clock
         → PageKeeps further (world m bytes) (steps + 1) next later
     page_next i g m bytes o s b further next k p later e h =
         let l = page_length in
         let line = line_of (steps + 1) (gives m bytes o) in
         let f : length entry - filled - length line ≡ length entry - next = omega (arith, p.ends) in
         let more : line_room ≤ length entry - filled = omega arith in
-        let same : setting_with L later ≡ S = ap (λ (z : Timetable). setting_of L z.stamps.now) e in
+        let same : setting_with L later ≡ S = ap (setting_by L) e in
         record {
           size = b ∙ t.size;
           fits = omega arith;
@@ -173,37 +173,37 @@ module _ (L : Layout) (start made budget : ℕ) (from : World) (entry : List ℕ
         ∙ ap (by_course steps w (further_from S (length entry - filled) steps budget w)) (sym g)) in
         page_written _ entry exit start next steps w Nothing (t.text ++ end_line end steps w.state.time.clock) e (put_then t.put p) (omega arith)
 
-    -- the stamps before the upcoming one are passed after a step too
+    -- the stamps before the upcoming ones are passed after a step too
     pub page_passed : w.state.halted ≡ false → (m : State) (bytes : List ℕ) (o : Outcome) → gives m bytes o ≡ step_of S w
         → HasPassed r m.time.clock
     page_passed h m bytes o s =
         let rises = clock_rises S w.state w.memory h in
         let e : m.time.clock ≡ (step_of S w).state.time.clock = ap (λ (z : Step). z.state.time.clock) s in
-        passed_later _ _ _ m.time.clock (omega arith) t.here
+        requests_later r w.state.time.clock m.time.clock (omega arith) t.here
 
--- the page where the loop ends, of the timetable that its requests stand on
+-- the page where the loop ends, of the lists that its requests stand on
 module _ (L : Layout) (start made budget : ℕ) (from : World) (entry out rs saved mem : List ℕ) (c : Control) (steps filled : ℕ) (r : Requests)
     (t : PageKeeps L start made budget from entry out (world (with_registers rs saved c) mem) steps filled r)
-    (T : Timetable) (same : r.timetable ≡ T) where
-  -- what is written of the requests' timetable
-  of_timetable : (exit : List ℕ) (done : StepsWritten)
+    (T : RequestLists) (same : r.lists ≡ T) where
+  -- what is written of the requests' lists
+  of_lists : (exit : List ℕ) (done : StepsWritten)
       → PageWritten (whole (setting_with L r) start made budget from entry) entry exit start done.filled done.steps
       (world (with_registers rs saved done.control) mem) done.remaining
-      → PageWritten (whole (setting_of L T.stamps.now) start made budget from entry) entry exit start done.filled done.steps
+      → PageWritten (whole (setting_by L T) start made budget from entry) entry exit start done.filled done.steps
       (world (with_registers rs saved done.control) mem) done.remaining
-  of_timetable exit done p =
-      subst (λ (z : Timetable). PageWritten (whole (setting_of L z.stamps.now) start made budget from entry) entry exit start done.filled done.steps
+  of_lists exit done p =
+      subst (λ (z : RequestLists). PageWritten (whole (setting_by L z) start made budget from entry) entry exit start done.filled done.steps
       (world (with_registers rs saved done.control) mem) done.remaining) same p
 
   -- with the end's line behind the lines before it
   pub page_ends : line_room ≤ length out - filled → (end : End) → Some end ≡ course c.halted c.time.clock steps budget
       → (exit : List ℕ) (done : StepsWritten) → LastLine end c steps out exit filled done
-      → PageWritten (whole (setting_of L T.stamps.now) start made budget from entry) entry exit start done.filled done.steps
+      → PageWritten (whole (setting_by L T) start made budget from entry) entry exit start done.filled done.steps
       (world (with_registers rs saved done.control) mem) done.remaining
   page_ends i end g exit done l =
       let p = page_ends_last L start made budget from entry out (world (with_registers rs saved c) mem) steps filled r t
       i end g exit done.filled (record { ends = l.ends; lies = l.bytes }) l.fits in
-      of_timetable exit done
+      of_lists exit done
       (record {
         bytes = p.bytes;
         ends = p.ends;
@@ -215,10 +215,10 @@ module _ (L : Layout) (start made budget : ℕ) (from : World) (entry out rs sav
 
   -- without room for one more
   pub page_ends_none : length out - filled < line_room → (done : StepsWritten) → done ≡ no_line c steps filled
-      → PageWritten (whole (setting_of L T.stamps.now) start made budget from entry) entry out start done.filled done.steps
+      → PageWritten (whole (setting_by L T) start made budget from entry) entry out start done.filled done.steps
       (world (with_registers rs saved done.control) mem) done.remaining
   page_ends_none i done e =
-      of_timetable out done
+      of_lists out done
       (subst (λ (z : StepsWritten). PageWritten (whole (setting_with L r) start made budget from entry) entry out start z.filled z.steps
       (world (with_registers rs saved z.control) mem) z.remaining) (sym e)
       (page_ends_full L start made budget from entry out (world (with_registers rs saved c) mem) steps filled r t i))

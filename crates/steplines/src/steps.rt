@@ -1,7 +1,6 @@
 // The lines of steps and of the end, as long as there is room for one.
 ghost use Rattle.std.specs.Prelude.{◌≡◌, ◌+◌, ◌-◌, ◌≤◌, length};
 ghost use Rattle.std.proofs.lemmas.List.Edits.{sets};
-ghost use Rattle.definition.specs.Setting.{setting_of};
 ghost use Rattle.definition.specs.State.{world};
 ghost use Rattle.definition.specs.Interrupt.{gives};
 ghost use Rattle.definition.specs.Run.{step_of};
@@ -11,13 +10,13 @@ ghost use Rattle.steplines.specs.Page.{line_room, page_from};
 ghost use Rattle.steplines.specs.internal.Course.{course};
 ghost use Rattle.steplines.specs.internal.Written.{PageWritten, LastLine, no_line};
 ghost use Rattle.base.specs.Limits.{last_clock};
-ghost use Rattle.clock.specs.Requests.{setting_with, AtClock};
+ghost use Rattle.clock.specs.Requests.{setting_by, setting_with, AtClock};
 
 use crate::remaining::Remaining;
 use answers::answer::{End, Outcome};
 use base::limits::LAST_CLOCK;
+use clock::lists::RequestLists;
 use clock::time::Requests;
-use clock::timetable::Timetable;
 use fast::steps::fast_steps;
 use inplace::in_place::{after_fast, fast_until, put_back};
 use layout::sections::Layout;
@@ -144,8 +143,8 @@ fn line_step(
     }
 }
 
-// The lines of a run, from where it stands, behind what is filled: none where that is past the end of the buffer. The index of the upcoming
-// stamp goes along with the clock. Buffer and index go apart, and not as a `Line`: the caller is left with the index.
+// The lines of a run, from where it stands, behind what is filled: none where that is past the end of the buffer. The indices of the
+// upcoming stamp and record go along with the clock. Buffer and how far it is filled go apart, and not as a `Line`: the caller is left with that.
 #[tactic(auto, using(crate::proofs::CourseLaws::course_told))]
 pub fn write_steps(
     control: Control,
@@ -153,19 +152,19 @@ pub fn write_steps(
     saved: &mut [u16; 16],
     mem: &mut [u8],
     layout: Layout,
-    timetable: Timetable<'_>,
+    lists: RequestLists<'_>,
     made: u64,
     budget: u64,
     out: &mut [u8],
     start: usize,
 ) -> StepsWritten
-    ensures { start ≤ length out.old → PageWritten (page_from (setting_of layout timetable.entry.stamps.now) (length out.old - start) made (budget - made) (world (with_registers registers.old saved.old control) mem.old)) out.old out.new start result.filled result.steps (world (with_registers registers.new saved.new result.control) mem.new) result.remaining }
+    ensures { start ≤ length out.old → PageWritten (page_from (setting_by layout lists.entry) (length out.old - start) made (budget - made) (world (with_registers registers.old saved.old control) mem.old)) out.old out.new start result.filled result.steps (world (with_registers registers.new saved.new result.control) mem.new) result.remaining }
 {
     if start > out.len() {
         return no_line(control, made, start);
     }
     let mut current = control;
-    let mut requests = timetable.requests_at(control.time.clock);
+    let mut requests = lists.requests_at(control.time.clock);
     let mut steps = made;
     let mut filled = start;
     // No `for`: how many lines there is room for is known only as they are written.

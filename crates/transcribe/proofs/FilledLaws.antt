@@ -7,14 +7,13 @@ use Rattle.base.specs.declared.refusal.SheetRefusal.{SheetRefusal}
 use Rattle.base.specs.FirstFailure.{first_failure}
 use Rattle.base.specs.Verdict.{verdict, unrefused}
 use Rattle.base.proofs.Tests.{when_true, when_false}
-use Rattle.layout.specs.declared.sections.Layout.{Layout}
-use Rattle.definition.specs.Setting.{Setting, setting_of}
+use Rattle.definition.specs.Setting.{Setting}
 use Rattle.definition.specs.declared.state.State.{State}
 use Rattle.definition.specs.State.{World, world}
 use Rattle.definition.specs.Run.{run_from, run}
-use Rattle.definition.specs.Calls.{timetable, transcript_tests}
-use Rattle.definition.specs.Laws.{world_at}
-use Rattle.definition.proofs.run.CallLaws.{all_hold}
+use Rattle.definition.specs.Calls.{transcript_tests}
+use Rattle.definition.specs.Laws.{ReadyToRun, world_at}
+use Rattle.definition.proofs.run.CallLaws.{transcript_ready}
 use Rattle.storage.specs.declared.control.Control.{Control}
 use Rattle.storage.specs.Control.{with_registers, control_of}
 use Rattle.transcript.specs.Transcript.{header_line, refusal_line}
@@ -37,9 +36,9 @@ unfolding first_failure
 no_tests = refl
 
 -- what a call that is taken knows
-pub taken_timed : (L : Layout) (stamps : List ℕ) (budget : ℕ) (w : World) (v : Result (Unit {0}) Refusal)
-    → v ≡ verdict (transcript_tests (setting_of L stamps) budget w) → v ≡ unrefused → timetable stamps ≡ true
-taken_timed L stamps budget w v e f = (all_hold (transcript_tests (setting_of L stamps) budget w) (sym e ∙ f)).1.1.0
+pub taken_ready : (S : Setting) (budget : ℕ) (w : World) (v : Result (Unit {0}) Refusal)
+    → v ≡ verdict (transcript_tests S budget w) → v ≡ unrefused → ReadyToRun S w
+taken_ready S budget w v e f = transcript_ready S w budget (sym e ∙ f)
 
 module _ (S : Setting) (t : Transcript) (mem : List ℕ) where
   -- the page of the transcript in this room

@@ -1,4 +1,4 @@
-// One call's page: the refusal's line, or the header and the lines of a run that is taken. Memory, layout, timetable and buffer go from function to
+// One call's page: the refusal's line, or the header and the lines of a run that is taken. Memory, layout, lists and buffer go from function to
 // function apart, as the call was given them: each of them hands them on once.
 ghost use Rattle.std.specs.Prelude.{ℕ, ◌-◌, ◌≤◌, ◌≡◌, List, length, true};
 ghost use Rattle.base.specs.Verdict.{verdict, unrefused};
@@ -6,6 +6,8 @@ ghost use Rattle.definition.specs.Setting.{Setting, setting_of};
 ghost use Rattle.definition.specs.Calls.{transcript_tests};
 ghost use Rattle.steplines.specs.declared.remaining.Remaining.TheVariants.{RefusalLine as REFUSAL, Header as HEADER};
 ghost use Rattle.steplines.specs.Page.{page_from};
+ghost use Rattle.clock.specs.Trace.{lent_trace};
+ghost use Rattle.clock.specs.Requests.{setting_by};
 ghost use Rattle.transcribe.specs.Transcribe.{page_of};
 ghost use Rattle.transcribe.specs.Promise.{world_of, page_by};
 ghost use Rattle.transcribe.specs.internal.Filled.{steps_remain, PageFilled};
@@ -13,7 +15,8 @@ ghost use Rattle.transcribe.specs.internal.Filled.{steps_remain, PageFilled};
 use crate::progress::{Filled, Transcript};
 use admission::verdict::judge_transcript;
 use base::refusal::SheetRefusal;
-use clock::timetable::Timetable;
+use clock::lists::RequestLists;
+use clock::trace::Trace;
 use layout::sections::Layout;
 use steplines::remaining::Remaining;
 use steplines::steps::{LINE_ROOM, write_steps};
@@ -45,12 +48,12 @@ fn run_page(
     t: Transcript,
     mem: &mut [u8],
     layout: Layout,
-    timetable: Timetable<'_>,
+    lists: RequestLists<'_>,
     out: &mut [u8],
     start: usize,
 ) -> Filled
     requires { start ≤ length out.old }
-    ensures { PageFilled (page_from (setting_of layout timetable.entry.stamps.now) (length out.old - start) t.steps (t.budget - t.steps) (world_of t mem.old)) unrefused t result mem.new out.old out.new start }
+    ensures { PageFilled (page_from (setting_by layout lists.entry) (length out.old - start) t.steps (t.budget - t.steps) (world_of t mem.old)) unrefused t result mem.new out.old out.new start }
 {
     let mut registers = t.state.registers;
     let mut saved = t.state.saved;
@@ -60,7 +63,7 @@ fn run_page(
         &mut saved,
         mem,
         layout,
-        timetable,
+        lists,
         t.steps,
         t.budget,
         out,
@@ -83,17 +86,17 @@ fn header_page(
     t: Transcript,
     mem: &mut [u8],
     layout: Layout,
-    timetable: Timetable<'_>,
+    lists: RequestLists<'_>,
     out: &mut [u8],
 ) -> Filled
     requires { t.remaining ≡ HEADER }
-    ensures { PageFilled (page_of (setting_of layout timetable.entry.stamps.now) (length out.old) t.steps (t.budget - t.steps) (world_of t mem.old) t.remaining) unrefused t result mem.new out.old out.new 0 }
+    ensures { PageFilled (page_of (setting_by layout lists.entry) (length out.old) t.steps (t.budget - t.steps) (world_of t mem.old) t.remaining) unrefused t result mem.new out.old out.new 0 }
 {
     if out.len() < LINE_ROOM {
         return Filled::empty(t);
     }
     let start = header_line(out);
-    run_page(t, mem, layout, timetable, out, start)
+    run_page(t, mem, layout, lists, out, start)
 }
 
 // The page of a run that is taken: the header first, where it is still to come.
@@ -101,15 +104,15 @@ fn taken_page(
     t: Transcript,
     mem: &mut [u8],
     layout: Layout,
-    timetable: Timetable<'_>,
+    lists: RequestLists<'_>,
     out: &mut [u8],
 ) -> Filled
     requires { steps_remain t.remaining ≡ true }
-    ensures { PageFilled (page_of (setting_of layout timetable.entry.stamps.now) (length out.old) t.steps (t.budget - t.steps) (world_of t mem.old) t.remaining) unrefused t result mem.new out.old out.new 0 }
+    ensures { PageFilled (page_of (setting_by layout lists.entry) (length out.old) t.steps (t.budget - t.steps) (world_of t mem.old) t.remaining) unrefused t result mem.new out.old out.new 0 }
 {
     match t.remaining {
-        Remaining::Header => header_page(t, mem, layout, timetable, out),
-        _ => run_page(t, mem, layout, timetable, out, 0),
+        Remaining::Header => header_page(t, mem, layout, lists, out),
+        _ => run_page(t, mem, layout, lists, out, 0),
     }
 }
 
@@ -120,16 +123,17 @@ pub fn tested_page(
     mem: &mut [u8],
     layout: Layout,
     stamps: &[u64],
+    trace: Trace<'_>,
     out: &mut [u8],
 ) -> Filled
     requires { steps_remain t.remaining ≡ true }
-    ensures { PageFilled (page_by (setting_of layout stamps.now) (length out.old) t mem.old (verdict (transcript_tests (setting_of layout stamps.now) t.budget (world_of t mem.old)))) (verdict (transcript_tests (setting_of layout stamps.now) t.budget (world_of t mem.old))) t result mem.new out.old out.new 0 }
+    ensures { PageFilled (page_by (setting_of layout stamps.now (lent_trace trace.entry)) (length out.old) t mem.old (verdict (transcript_tests (setting_of layout stamps.now (lent_trace trace.entry)) t.budget (world_of t mem.old)))) (verdict (transcript_tests (setting_of layout stamps.now (lent_trace trace.entry)) t.budget (world_of t mem.old))) t result mem.new out.old out.new 0 }
 {
-    match judge_transcript(t.state, mem, layout, stamps, t.budget) {
+    match judge_transcript(t.state, mem, layout, stamps, trace, t.budget) {
         Err(refusal) => Filled {
             transcript: t,
             written: Err(refusal),
         },
-        Ok(()) => taken_page(t, mem, layout, Timetable { stamps }, out),
+        Ok(()) => taken_page(t, mem, layout, RequestLists { stamps, trace }, out),
     }
 }

@@ -20,9 +20,9 @@ loop-out-preserved c =
     let t = l.invariant.0 in
     let done = c.line_step-done.ensures told.1.0 t.here in
     let later = c.at-requests.ensures in (
-      page_next _ _ _ _ _ _ _ _ _ _ _ t c.loop-out-test.true g _ _ _ done (omega arith) _ _ p.1.0 (record { ends = p.0; lies = p.1.1 }) _ later.timetable
+      page_next _ _ _ _ _ _ _ _ _ _ _ t c.loop-out-test.true g _ _ _ done (omega arith) _ _ p.1.0 (record { ends = p.0; lies = p.1.1 }) _ later.lists
           (later.upcoming (page_passed _ _ _ _ _ _ _ _ _ _ _ t told.0 _ _ _ done)),
-      later.timetable ∙ l.invariant.1,
+      later.lists ∙ l.invariant.1,
     )
 
 pub returns : goal.returns
