@@ -11,7 +11,7 @@ use Rattle.definition.specs.Run.{Going, goes, stops, ending, world_after, step_o
 use Rattle.definition.specs.Calls.{transcript_tests}
 use Rattle.definition.specs.Laws.{world_at, ReadyToRun}
 use Rattle.definition.proofs.frame.FrameLaws.{ready_kept}
-use Rattle.definition.proofs.run.CallLaws.{all_hold}
+use Rattle.definition.proofs.run.CallLaws.{all_hold, transcript_ready}
 use Rattle.steplines.specs.declared.remaining.Remaining.{Remaining}
 use Rattle.steplines.specs.declared.remaining.Remaining.TheVariants.{RefusalLine, Header, Steps, Nothing}
 use Rattle.transcribe.specs.declared.progress.Transcript.{Transcript}
@@ -38,13 +38,12 @@ module _ (S : Setting) where
   -- the tests of a transcript, apart and together
   tests_apart : (budget : ℕ) (w : World) → verdict (transcript_tests S budget w) ≡ unrefused → ReadyToRun S w × (leb budget most_budget ≡ true)
   tests_apart budget w e =
-      let h = all_hold (transcript_tests S budget w) e in
-      (record { memory = h.0; layout = h.1.0; timetable = h.1.1.0; frame = h.1.1.1.0 }, h.1.1.1.1.0)
+      (transcript_ready S w budget e, (all_hold (transcript_tests S budget w) e).1.1.1.1.1.0)
 
   pub tests_together : (budget : ℕ) (w : World) → ReadyToRun S w → leb budget most_budget ≡ true → verdict (transcript_tests S budget w) ≡ unrefused
   unfolding first_failure
   tests_together budget w s b =
-      rw (when_true _ _ _ s.memory, when_true _ _ _ s.layout, when_true _ _ _ s.timetable, when_true _ _ _ s.frame, when_true _ _ _ b) (when_true _ _ _ refl)
+      rw (when_true _ _ _ s.memory, when_true _ _ _ s.layout, when_true _ _ _ s.timetable, when_true _ _ _ s.trace, when_true _ _ _ s.frame, when_true _ _ _ b) (when_true _ _ _ refl)
 
   -- where the machine is ready, whatever remains is taken
   taken_ready : (t : Transcript) (mem : List ℕ) → ReadyToRun S (world_of t mem) → leb t.budget most_budget ≡ true → (remaining : Remaining)
@@ -122,4 +121,4 @@ pages_make_whole S t mem rooms e r i = pages_whole S rooms t mem e r i
 
 pub pages_make_output : PagesMakeOutput
 unfolding PagesMakeOutput
-pages_make_output sheet mem stamps r mem_then stamps_then rooms o k i = pages_whole _ rooms r.transcript mem_then o.taken k i ∙ o.output
+pages_make_output sheet before r after rooms o k i = pages_whole _ rooms r.transcript after.memory o.taken k i ∙ o.output

@@ -8,7 +8,7 @@ use Rattle.transcribe.specs.Transcribe.{lines_left}
 use Rattle.transcribe.specs.Promise.{transcript_after, fill_tests, text_left, page_call}
 use Rattle.output.specs.declared.open.SheetRun.{SheetRun}
 use Rattle.output.specs.Output.{sheet_output}
-use Rattle.output.specs.Open.{setting_opened, OpenPromise}
+use Rattle.output.specs.Open.{RunRoom, setting_opened, OpenPromise}
 
 -- what calls write one after another, each into the room that it is lent
 unfoldable pub pages_text : Setting → List ℕ → Transcript → List ℕ → List ℕ
@@ -30,6 +30,6 @@ PagesMakeWhole =
 -- and so, of an opened sheet, all that it leads to
 unfoldable pub PagesMakeOutput : Type 0
 PagesMakeOutput =
-    (sheet mem stamps : List ℕ) (r : SheetRun) (mem_then stamps_then rooms : List ℕ) → OpenPromise sheet mem stamps r mem_then stamps_then
+    (sheet : List ℕ) (before : RunRoom) (r : SheetRun) (after : RunRoom) (rooms : List ℕ) → OpenPromise sheet before r after
     → Roomy rooms → lines_left (r.transcript.budget - r.transcript.steps) r.transcript.remaining ≤ length rooms
-    → pages_text (setting_opened r stamps_then) rooms r.transcript mem_then ≡ sheet_output sheet
+    → pages_text (setting_opened r after) rooms r.transcript after.memory ≡ sheet_output sheet

@@ -1,23 +1,25 @@
-// A sheet's run before its first line: the sheet is read, and its memory and timetable are set up.
+// A sheet's run before its first line: the sheet is read, and its memory, timetable and trace are set up.
 ghost use Rattle.std.specs.Prelude.{◌≡◌, true};
+ghost use Rattle.definition.specs.Setting.{trace_of};
 ghost use Rattle.definition.specs.State.{start};
 ghost use Rattle.definition.specs.Calls.{whole_memory};
-ghost use Rattle.output.specs.Open.{no_layout, OpenPromise};
+ghost use Rattle.output.specs.Open.{no_layout, run_room, OpenPromise};
 
 use base::limits::{MEMORY_BYTES, MOST_STAMPS};
 use layout::sections::{Layout, Span};
-use loader::load::{load_memory, load_stamps};
+use loader::load::{load_memory, load_stamps, load_trace};
 use machine::calls::Machine;
 use sheet::reader::read_sheet;
 use steplines::remaining::Remaining;
 use transcribe::progress::Transcript;
 
-// An opened sheet: its layout, how many of the lent stamps are its own, and its transcript, of which all is still to be written. A count and no
-// slice: the promise sets the answer equal to the definition's, which has no borrowed part.
+// An opened sheet: its layout, how many of the lent stamps and of the lent records are its own, and its transcript, of which all is still to be
+// written. Counts and no slices: the promise sets the answer equal to the definition's, which has no borrowed part.
 #[derive(Clone, Copy)]
 pub struct SheetRun {
     pub layout: Layout,
     pub count: usize,
+    pub records: usize,
     pub transcript: Transcript,
 }
 
@@ -50,21 +52,26 @@ pub fn open_sheet(
     text: &[u8],
     mem: &mut [u8; MEMORY_BYTES],
     stamps: &mut [u64; MOST_STAMPS],
+    trace_stamps: &mut [u64; MOST_STAMPS],
+    trace_words: &mut [u16; MOST_STAMPS],
 ) -> SheetRun
-    ensures { OpenPromise text.now mem.old stamps.old result mem.new stamps.new }
+    ensures { OpenPromise text.now (run_room mem.old stamps.old (trace_of trace_stamps.old trace_words.old)) result (run_room mem.new stamps.new (trace_of trace_stamps.new trace_words.new)) }
 {
     match read_sheet(text) {
         Err(refused) => SheetRun {
             layout: no_layout(),
             count: 0,
+            records: 0,
             transcript: unwritten(mem, 0, Remaining::RefusalLine(refused)),
         },
         Ok(setup) => {
             load_memory(mem, text);
             load_stamps(stamps, text);
+            load_trace(trace_stamps, trace_words, text);
             SheetRun {
                 layout: setup.layout,
                 count: setup.stamps,
+                records: setup.records,
                 transcript: unwritten(mem, setup.budget, Remaining::Header),
             }
         }

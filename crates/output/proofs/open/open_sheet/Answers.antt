@@ -4,9 +4,9 @@ use Rattle.output.proofs.open.open_sheet.Goals as goal
 
 pub returns-in-Err : goal.returns-in-Err
 returns-in-Err c =
-    opened_refused _ _ _ _ (sym c.in-Err.is ∙ c.read_sheet.ensures.result) (omega arith) _ c.no_layout.ensures _ c.unwritten.ensures
+    opened_refused _ _ _ (sym c.in-Err.is ∙ c.read_sheet.ensures.result) (omega arith) _ c.no_layout.ensures _ c.unwritten.ensures
 
 pub returns-in-Ok : goal.returns-in-Ok
 returns-in-Ok c =
-    opened_read _ _ _ c.in-Ok.setup (sym c.in-Ok.is ∙ c.read_sheet.ensures.result) _ _ c.load_memory.ensures.loaded c.load_stamps.ensures (sym c.load_memory.ensures.size) (omega arith)
-    _ c.unwritten-in-Ok.ensures
+    opened_read _ _ c.in-Ok.setup (sym c.in-Ok.is ∙ c.read_sheet.ensures.result) _ c.load_memory.ensures.loaded c.load_stamps.ensures
+    c.load_trace.ensures.stamps c.load_trace.ensures.words (sym c.load_memory.ensures.size) (omega arith) (omega arith) (omega arith) _ c.unwritten-in-Ok.ensures
