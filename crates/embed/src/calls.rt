@@ -1,7 +1,9 @@
 // Start, step and run. Each answers 0, or the number of the refusal, which leaves all that is lent as it came.
+ghost use Rattle.definition.specs.Setting.{trace_of};
 ghost use Rattle.lentstate.specs.State.{numbers};
 ghost use Rattle.lentcalls.specs.Calls.{StartReturns, StepReturns, RunReturns};
 
+use clock::trace::Trace;
 use lentcalls::calls::{run_lent, start_lent, step_lent};
 
 // The start state of a memory.
@@ -28,13 +30,19 @@ pub extern "C" fn enclave_step(
     mem: &mut [u8],
     layout: &[u16; 5],
     stamps: &[u64],
+    trace_stamps: &[u64],
+    trace_words: &[u16],
     kind: &mut u8,
     cause: &mut u8,
 ) -> u8
-    ensures { StepReturns mem.old layout.now stamps.now (numbers registers.old saved.old control.old time.old) (numbers registers.new saved.new control.new time.new) mem.new kind.old kind.new cause.old cause.new result }
+    ensures { StepReturns mem.old layout.now stamps.now (trace_of trace_stamps.now trace_words.now) (numbers registers.old saved.old control.old time.old) (numbers registers.new saved.new control.new time.new) mem.new kind.old kind.new cause.old cause.new result }
 {
+    let trace = Trace {
+        stamps: trace_stamps,
+        words: trace_words,
+    };
     step_lent(
-        registers, saved, control, time, mem, layout, stamps, kind, cause,
+        registers, saved, control, time, mem, layout, stamps, trace, kind, cause,
     )
 }
 
@@ -48,13 +56,19 @@ pub extern "C" fn enclave_run(
     mem: &mut [u8],
     layout: &[u16; 5],
     stamps: &[u64],
+    trace_stamps: &[u64],
+    trace_words: &[u16],
     budget: u64,
     end: &mut u8,
     steps: &mut u64,
 ) -> u8
-    ensures { RunReturns mem.old layout.now stamps.now budget (numbers registers.old saved.old control.old time.old) (numbers registers.new saved.new control.new time.new) mem.new end.old end.new steps.old steps.new result }
+    ensures { RunReturns mem.old layout.now stamps.now (trace_of trace_stamps.now trace_words.now) budget (numbers registers.old saved.old control.old time.old) (numbers registers.new saved.new control.new time.new) mem.new end.old end.new steps.old steps.new result }
 {
+    let trace = Trace {
+        stamps: trace_stamps,
+        words: trace_words,
+    };
     run_lent(
-        registers, saved, control, time, mem, layout, stamps, budget, end, steps,
+        registers, saved, control, time, mem, layout, stamps, trace, budget, end, steps,
     )
 }

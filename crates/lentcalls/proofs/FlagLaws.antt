@@ -6,8 +6,8 @@ use Rattle.base.proofs.Refusals.{number_not_zero}
 use Rattle.definition.specs.Setting.{Setting, setting_of}
 use Rattle.definition.specs.State.{World, world}
 use Rattle.definition.specs.Answers.{run_refusal, step_refusal}
-use Rattle.definition.specs.Calls.{step_tests, run_tests, step_answered, run_answered, step_call, run_call}
-use Rattle.definition.proofs.run.CallLaws.{all_hold}
+use Rattle.definition.specs.Calls.{step_answered, run_answered, step_call, run_call}
+use Rattle.definition.proofs.run.CallLaws.{step_ready, run_ready}
 use Rattle.lentlayout.specs.Layout.{layout_of}
 use Rattle.lentstate.specs.State.{machine_of}
 use Rattle.lentstate.specs.Laws.{OddFlagUnframed}
@@ -26,11 +26,10 @@ module _ (S : Setting) (w : World) where
 
 pub odd_flag_refused : OddFlagRefused
 unfolding OddFlagRefused OddFlagUnframed step_on run_on step_call run_call
-odd_flag_refused n mem layout stamps h =
-    let S = setting_of (layout_of layout) stamps in
+odd_flag_refused n mem layout stamps trace h =
+    let S = setting_of (layout_of layout) stamps trace in
     let w = world (machine_of n) mem in
     let f = odd_flag_unframed S n h in (
-      -- the fourth test is the frame
-      (λ e. cc (all_hold (step_tests S w) (step_number S w _ e)).1.1.1.0),
-      (λ budget e. cc (all_hold (run_tests S budget w) (run_number S w budget _ e)).1.1.1.0),
+      (λ e. cc (step_ready S w (step_number S w _ e)).frame),
+      (λ budget e. cc (run_ready S w budget (run_number S w budget _ e)).frame),
     )

@@ -2,10 +2,12 @@
 // A machine's numbers and its memory are lent apart, and in no struct: the C interface has them so.
 ghost use Rattle.std.specs.Prelude.{◌≡◌};
 ghost use Rattle.definition.specs.Answers.{cause_of};
+ghost use Rattle.clock.specs.Trace.{lent_trace};
 ghost use Rattle.lentstate.specs.State.{numbers};
 ghost use Rattle.lentcalls.specs.Calls.{StartReturns, StepReturns, RunReturns};
 
 use answers::answer::Outcome;
+use clock::trace::Trace;
 use layout::sections::Layout;
 use lentstate::state::{control_of, hand_back, hand_control};
 use machine::calls::{Machine, run_in_place, step_in_place};
@@ -51,13 +53,22 @@ pub fn step_lent(
     mem: &mut [u8],
     layout: &[u16; 5],
     stamps: &[u64],
+    trace: Trace<'_>,
     kind: &mut u8,
     cause: &mut u8,
 ) -> u8
-    ensures { StepReturns mem.old layout.now stamps.now (numbers registers.old saved.old control.old time.old) (numbers registers.new saved.new control.new time.new) mem.new kind.old kind.new cause.old cause.new result }
+    ensures { StepReturns mem.old layout.now stamps.now (lent_trace trace.entry) (numbers registers.old saved.old control.old time.old) (numbers registers.new saved.new control.new time.new) mem.new kind.old kind.new cause.old cause.new result }
 {
     let rest = control_of(*control, *time);
-    let stepped = step_in_place(rest, registers, saved, mem, Layout::from(*layout), stamps);
+    let stepped = step_in_place(
+        rest,
+        registers,
+        saved,
+        mem,
+        Layout::from(*layout),
+        stamps,
+        trace,
+    );
     match stepped.answer {
         Err(refusal) => u8::from(refusal),
         Ok(outcome) => {
@@ -79,11 +90,12 @@ pub fn run_lent(
     mem: &mut [u8],
     layout: &[u16; 5],
     stamps: &[u64],
+    trace: Trace<'_>,
     budget: u64,
     end: &mut u8,
     steps: &mut u64,
 ) -> u8
-    ensures { RunReturns mem.old layout.now stamps.now budget (numbers registers.old saved.old control.old time.old) (numbers registers.new saved.new control.new time.new) mem.new end.old end.new steps.old steps.new result }
+    ensures { RunReturns mem.old layout.now stamps.now (lent_trace trace.entry) budget (numbers registers.old saved.old control.old time.old) (numbers registers.new saved.new control.new time.new) mem.new end.old end.new steps.old steps.new result }
 {
     let rest = control_of(*control, *time);
     let ran = run_in_place(
@@ -93,6 +105,7 @@ pub fn run_lent(
         mem,
         Layout::from(*layout),
         stamps,
+        trace,
         budget,
     );
     match ran.answer {

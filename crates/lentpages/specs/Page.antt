@@ -4,7 +4,7 @@ use Rattle.std.proofs.lemmas.List.Edits.{sets}
 use Rattle.base.specs.declared.refusal.Refusal.{Refusal}
 use Rattle.base.specs.Test.{when◌then◌else◌}
 use Rattle.base.specs.Verdict.{verdict, refused_by}
-use Rattle.definition.specs.Setting.{setting_of}
+use Rattle.definition.specs.Setting.{Trace, setting_of}
 use Rattle.steplines.specs.declared.remaining.Remaining.{Remaining}
 use Rattle.steplines.specs.declared.remaining.Remaining.TheVariants.{RefusalLine, Header, Steps, Nothing}
 use Rattle.transcribe.specs.declared.progress.Transcript.{Transcript}
@@ -44,22 +44,22 @@ unfoldable pub transcript_of : ℕ → PageRoom → Transcript
 transcript_of budget lent =
     record { state = machine_of lent.machine; steps = lent.steps; budget = budget; remaining = stage_of lent.stage }
 
--- whether its page is refused, by a caller's layout and stamps
-unfoldable pub page_verdict : List ℕ → List ℕ → ℕ → PageRoom → Result (Unit {0}) Refusal
-page_verdict layout stamps budget lent =
-    let t = transcript_of budget lent in verdict (fill_tests (setting_of (layout_of layout) stamps) t lent.memory t.remaining)
+-- whether its page is refused, by a caller's layout, stamps and trace
+unfoldable pub page_verdict : List ℕ → List ℕ → Trace → ℕ → PageRoom → Result (Unit {0}) Refusal
+page_verdict layout stamps trace budget lent =
+    let t = transcript_of budget lent in verdict (fill_tests (setting_of (layout_of layout) stamps trace) t lent.memory t.remaining)
 
 -- its page, in the room that the buffer has
-unfoldable pub page_on : List ℕ → List ℕ → ℕ → PageRoom → Page
-page_on layout stamps budget lent =
-    page_call (setting_of (layout_of layout) stamps) (length lent.buffer) (transcript_of budget lent) lent.memory
+unfoldable pub page_on : List ℕ → List ℕ → Trace → ℕ → PageRoom → Page
+page_on layout stamps trace budget lent =
+    page_call (setting_of (layout_of layout) stamps trace) (length lent.buffer) (transcript_of budget lent) lent.memory
 
 -- what the call promises of the number that it answers and of what is lent after it
-pub record TranscribeReturns (layout stamps : List ℕ) (budget : ℕ) (before after : PageRoom) (answered : ℕ) : Type 0 where
-  pub number : answered ≡ refused_by (page_verdict layout stamps budget before)
-  pub machine : after.machine ≡ unless_refused answered (numbers_of (page_on layout stamps budget before).world.state) before.machine
-  pub memory : after.memory ≡ (page_on layout stamps budget before).world.memory
-  pub stage : after.stage ≡ unless_refused answered (stage_number (page_on layout stamps budget before).remaining) before.stage
-  pub steps : after.steps ≡ unless_refused answered (page_on layout stamps budget before).steps before.steps
-  pub buffer : after.buffer ≡ sets before.buffer 0 (page_on layout stamps budget before).text
-  pub written : after.written ≡ unless_refused answered (length (page_on layout stamps budget before).text) before.written
+pub record TranscribeReturns (layout stamps : List ℕ) (trace : Trace) (budget : ℕ) (before after : PageRoom) (answered : ℕ) : Type 0 where
+  pub number : answered ≡ refused_by (page_verdict layout stamps trace budget before)
+  pub machine : after.machine ≡ unless_refused answered (numbers_of (page_on layout stamps trace budget before).world.state) before.machine
+  pub memory : after.memory ≡ (page_on layout stamps trace budget before).world.memory
+  pub stage : after.stage ≡ unless_refused answered (stage_number (page_on layout stamps trace budget before).remaining) before.stage
+  pub steps : after.steps ≡ unless_refused answered (page_on layout stamps trace budget before).steps before.steps
+  pub buffer : after.buffer ≡ sets before.buffer 0 (page_on layout stamps trace budget before).text
+  pub written : after.written ≡ unless_refused answered (length (page_on layout stamps trace budget before).text) before.written

@@ -1,9 +1,11 @@
 // A run's transcript, page by page. The call answers 0, or the number of the refusal, which leaves all that is lent as it came.
 // What is lent comes apart, and in no struct: the C interface has it so.
 ghost use Rattle.std.specs.Prelude.{◌≡◌};
+ghost use Rattle.clock.specs.Trace.{lent_trace};
 ghost use Rattle.lentstate.specs.State.{numbers};
 ghost use Rattle.lentpages.specs.Page.{stage_of, stage_number, page_room, TranscribeReturns};
 
+use clock::trace::Trace;
 use layout::sections::Layout;
 use lentstate::state::{hand_back, machine_of};
 use steplines::remaining::Remaining;
@@ -45,13 +47,14 @@ pub fn transcribe_lent(
     mem: &mut [u8],
     layout: &[u16; 5],
     stamps: &[u64],
+    trace: Trace<'_>,
     budget: u64,
     stage: &mut u8,
     steps: &mut u64,
     out: &mut [u8],
     written: &mut u64,
 ) -> u8
-    ensures { TranscribeReturns layout.now stamps.now budget (page_room (numbers registers.old saved.old control.old time.old) mem.old stage.old steps.old out.old written.old) (page_room (numbers registers.new saved.new control.new time.new) mem.new stage.new steps.new out.new written.new) result }
+    ensures { TranscribeReturns layout.now stamps.now (lent_trace trace.entry) budget (page_room (numbers registers.old saved.old control.old time.old) mem.old stage.old steps.old out.old written.old) (page_room (numbers registers.new saved.new control.new time.new) mem.new stage.new steps.new out.new written.new) result }
 {
     let t = Transcript {
         state: machine_of(*registers, *saved, *control, *time),
@@ -59,7 +62,7 @@ pub fn transcribe_lent(
         budget,
         remaining: stage_of(*stage),
     };
-    let done = t.fill(mem, Layout::from(*layout), stamps, out);
+    let done = t.fill(mem, Layout::from(*layout), stamps, trace, out);
     match done.written {
         Err(refusal) => u8::from(refusal),
         Ok(count) => {
