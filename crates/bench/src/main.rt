@@ -4,6 +4,7 @@
 mod pages;
 
 use base::limits::{MEMORY_BYTES, MOST_SHEET_BYTES, MOST_STAMPS};
+use clock::trace::Trace;
 use console::input::read_full;
 use explain::sentence::explanation;
 use output::open::open_sheet;
@@ -51,6 +52,8 @@ fn main(rt: HostRuntime) -> ExitCode {
     let mut page = [0u8; PAGE_BYTES];
     let mut mem = [0u8; MEMORY_BYTES];
     let mut stamps = [0u64; MOST_STAMPS];
+    let mut trace_stamps = [0u64; MOST_STAMPS];
+    let mut trace_words = [0u16; MOST_STAMPS];
     let mut out = io::writer(&rt);
     let mut errors = rt.stderr();
     let Ok(n) = read_full(&mut rt.reader(), &mut sheet) else {
@@ -58,16 +61,24 @@ fn main(rt: HostRuntime) -> ExitCode {
         return ExitCode::SUCCESS;
     };
     let text: &[u8] = &sheet[..n];
-    let opened = open_sheet(text, &mut mem, &mut stamps);
-    let Some(stamps) = stamps.get(..opened.count) else {
-        return ExitCode::SUCCESS;
+    let opened = open_sheet(
+        text,
+        &mut mem,
+        &mut stamps,
+        &mut trace_stamps,
+        &mut trace_words,
+    );
+    let trace = Trace {
+        stamps: &trace_stamps[..opened.records],
+        words: &trace_words[..opened.records],
     };
     let written = pages::write_pages(
         &mut out,
         opened.transcript,
         &mut mem,
         opened.layout,
-        stamps,
+        &stamps[..opened.count],
+        trace,
         &mut page,
     );
     if let Err(why) = written {

@@ -1,5 +1,6 @@
 // A transcript, filled and written page by page.
 use base::limits::MOST_BUDGET;
+use clock::trace::Trace;
 use layout::sections::Layout;
 use std::io;
 use std::io::Write;
@@ -15,11 +16,12 @@ pub fn write_pages(
     mem: &mut [u8],
     layout: Layout,
     stamps: &[u64],
+    trace: Trace<'_>,
     page: &mut [u8],
 ) -> io::Result<()> {
     let mut current = transcript;
     for _ in 0..MOST_PAGES {
-        let filled = current.fill(mem, layout, stamps, page);
+        let filled = current.fill(mem, layout, stamps, trace, page);
         match filled.written {
             Err(_) | Ok(0) => return Ok(()),
             Ok(count) => out.write_all(&page[..count])?,
