@@ -2,6 +2,7 @@
 use crate::show;
 use answers::answer::{Outcome, Stopped};
 use base::refusal::Refusal;
+use clock::trace::Trace;
 use console::print;
 use machine::calls::Machine;
 use script::world::World;
@@ -38,6 +39,14 @@ fn show_run(out: &mut impl Write, a: Result<Stopped, Refusal>) -> io::Result<()>
     }
 }
 
+// The trace of stamps and words that are lent.
+fn trace_of<'a>(stamps: Option<&'a [u64]>, words: Option<&'a [u16]>) -> Option<Trace<'a>> {
+    Some(Trace {
+        stamps: stamps?,
+        words: words?,
+    })
+}
+
 // Start: where it is refused, only the answer and the sums are shown, and the machine stays as it was.
 pub fn start(out: &mut impl Write, w: &mut World) -> io::Result<()> {
     let Some(mem) = w.memory.get(..w.bytes) else {
@@ -63,10 +72,14 @@ pub fn step(out: &mut impl Write, w: &mut World) -> io::Result<()> {
     let Some(mem) = w.memory.get_mut(..w.bytes) else {
         return print::unknown(out);
     };
-    let Some(stamps) = w.times.get(..w.stamps) else {
+    let Some(stamps) = w.stamps.numbers() else {
         return print::unknown(out);
     };
-    let stepped = Machine(w.state).step(mem, w.layout, stamps);
+    let words = w.trace_words.words();
+    let Some(trace) = trace_of(w.trace_stamps.numbers(), words.get(..w.trace_words.len())) else {
+        return print::unknown(out);
+    };
+    let stepped = Machine(w.state).step(mem, w.layout, stamps, trace);
     w.state = stepped.machine.0;
     show_step(out, stepped.answer)?;
     show::state(out, w)
@@ -77,10 +90,14 @@ pub fn run(out: &mut impl Write, w: &mut World, budget: u64) -> io::Result<()> {
     let Some(mem) = w.memory.get_mut(..w.bytes) else {
         return print::unknown(out);
     };
-    let Some(stamps) = w.times.get(..w.stamps) else {
+    let Some(stamps) = w.stamps.numbers() else {
         return print::unknown(out);
     };
-    let ran = Machine(w.state).run(mem, w.layout, stamps, budget);
+    let words = w.trace_words.words();
+    let Some(trace) = trace_of(w.trace_stamps.numbers(), words.get(..w.trace_words.len())) else {
+        return print::unknown(out);
+    };
+    let ran = Machine(w.state).run(mem, w.layout, stamps, trace, budget);
     w.state = ran.machine.0;
     show_run(out, ran.answer)?;
     show::state(out, w)

@@ -3,12 +3,16 @@
 //
 // A line of the script is a letter and fields: hexadecimal numbers, each after one space. A line that begins with # is repeated.
 //
-// W            a new world: memory 0, document 01's layout, no stamps, nothing but 0 in the state, previous address FFFE
+// W            a new world: memory 0, document 01's layout, no stamps, no records, nothing but 0 in the state, previous address FFFE
 // L a b c d e  layout: code start and end, data start and end, service address
 // M a w..      words in memory, from the even address a on
 // N n          how many bytes of the memory's 65,538 a call is lent
 // A s..   a    stamps put behind the timetable's last; an empty timetable
 // F s d n      n stamps put there: s, s + d, ..
+// V s..   v    stamps put behind the trace's last; an empty trace, stamps and words
+// U w..        words put behind the trace's last
+// J s d n      n trace stamps put there: s, s + d, ..
+// Y w d n      n trace words put there: w, w + d, .. of 16 bits
 // R n w        register n
 // P a          previous address
 // C n          clock

@@ -4,12 +4,13 @@ use console::print;
 use layout::sections::Layout;
 use script::command::Command;
 use script::line;
+use script::list::List;
 use script::world::World;
 use std::io;
 use std::io::Write;
 
-// A question mark where there was no room for stamps.
-fn show_stamps(out: &mut impl Write, done: Option<()>) -> io::Result<()> {
+// A question mark where a list had no room for more.
+fn show_put(out: &mut impl Write, done: Option<()>) -> io::Result<()> {
     match done {
         Some(()) => Ok(()),
         None => print::unknown(out),
@@ -23,11 +24,14 @@ fn obey(out: &mut impl Write, w: &mut World, command: Command<'_>) -> io::Result
         Command::Layout(addresses) => w.layout = Layout::from(addresses),
         Command::Words { address, words } => w.put_words(address, words),
         Command::Bytes(n) => w.bytes = n,
-        Command::Stamps(stamps) => show_stamps(out, w.put_stamps(stamps))?,
-        Command::NoStamps => w.stamps = 0,
-        Command::StampRow { first, step, count } => {
-            show_stamps(out, w.put_stamp_row(first, step, count))?;
-        }
+        Command::Stamps(stamps) => show_put(out, w.stamps.put(stamps))?,
+        Command::StampRow(row) => show_put(out, w.stamps.put_row(row))?,
+        Command::NoStamps => w.stamps = List::empty(),
+        Command::TraceStamps(stamps) => show_put(out, w.trace_stamps.put(stamps))?,
+        Command::TraceStampRow(row) => show_put(out, w.trace_stamps.put_row(row))?,
+        Command::TraceWords(words) => show_put(out, w.trace_words.put(words))?,
+        Command::TraceWordRow(row) => show_put(out, w.trace_words.put_row(row))?,
+        Command::NoTrace => w.clear_trace(),
         Command::Overwrite(part) => w.overwrite(part),
         Command::Start => call::start(out, w)?,
         Command::Step => call::step(out, w)?,

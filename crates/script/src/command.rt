@@ -3,7 +3,7 @@ use crate::line::Line;
 use crate::world::WORLD_BYTES;
 use definition::state::SavedContext;
 
-// A command. Of words and stamps, the numbers stay in the line.
+// A command. Of words, stamps and records, the numbers stay in the line.
 #[derive(Clone, Copy)]
 pub enum Command<'a> {
     NewWorld,
@@ -11,12 +11,25 @@ pub enum Command<'a> {
     Words { address: u16, words: &'a [u64] },
     Bytes(usize),
     Stamps(&'a [u64]),
+    StampRow(Row),
     NoStamps,
-    StampRow { first: u64, step: u64, count: usize },
+    TraceStamps(&'a [u64]),
+    TraceStampRow(Row),
+    TraceWords(&'a [u64]),
+    TraceWordRow(Row),
+    NoTrace,
     Overwrite(Part),
     Start,
     Step,
     Run { budget: u64 },
+}
+
+// A row of numbers, `step` apart.
+#[derive(Clone, Copy)]
+pub struct Row {
+    pub first: u64,
+    pub step: u64,
+    pub count: usize,
 }
 
 // A part of the state, and what it becomes.
@@ -53,14 +66,33 @@ fn layout(fields: [u64; 5]) -> Option<[u16; 5]> {
     Some([word(a)?, word(b)?, word(c)?, word(d)?, word(e)?])
 }
 
-// An address and a word at least.
-fn words(address: u64, words: &[u64]) -> Option<Command<'_>> {
-    if words.is_empty() || words.iter().any(|w| word(*w).is_none()) {
+// A row by its three fields.
+fn row_of(first: u64, step: u64, count: u64) -> Option<Row> {
+    Some(Row {
+        first,
+        step,
+        count: usize::try_from(count).ok()?,
+    })
+}
+
+// A row of words: its low 16 bits are those of the numbers.
+fn word_row(first: u64, step: u64, count: u64) -> Option<Row> {
+    row_of(u64::from(word(first)?), u64::from(word(step)?), count)
+}
+
+// One word at least.
+fn words(numbers: &[u64]) -> Option<&[u64]> {
+    if numbers.is_empty() || numbers.iter().any(|w| word(*w).is_none()) {
         return None;
     }
+    Some(numbers)
+}
+
+// An address and a word at least.
+fn words_at(address: u64, numbers: &[u64]) -> Option<Command<'_>> {
     Some(Command::Words {
         address: word(address)?,
-        words,
+        words: words(numbers)?,
     })
 }
 
@@ -104,15 +136,20 @@ impl<'a> Command<'a> {
         match (line.letter, fields) {
             (b'W', []) => Some(Command::NewWorld),
             (b'L', &[a, b, c, d, e]) => Some(Command::Layout(layout([a, b, c, d, e])?)),
-            (b'M', [address, rest @ ..]) => words(*address, rest),
+            (b'M', [address, rest @ ..]) => words_at(*address, rest),
             (b'N', &[n]) => bytes(n),
             (b'A', [_, ..]) => Some(Command::Stamps(fields)),
             (b'a', []) => Some(Command::NoStamps),
-            (b'F', &[first, step, count]) => Some(Command::StampRow {
-                first,
-                step,
-                count: usize::try_from(count).ok()?,
-            }),
+            (b'F', &[first, step, count]) => Some(Command::StampRow(row_of(first, step, count)?)),
+            (b'V', [_, ..]) => Some(Command::TraceStamps(fields)),
+            (b'J', &[first, step, count]) => {
+                Some(Command::TraceStampRow(row_of(first, step, count)?))
+            }
+            (b'U', _) => Some(Command::TraceWords(words(fields)?)),
+            (b'Y', &[first, step, count]) => {
+                Some(Command::TraceWordRow(word_row(first, step, count)?))
+            }
+            (b'v', []) => Some(Command::NoTrace),
             (b'S', []) => Some(Command::Start),
             (b'T', []) => Some(Command::Step),
             (b'G', &[budget]) => Some(Command::Run { budget }),

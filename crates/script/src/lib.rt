@@ -3,5 +3,6 @@
 
 pub mod command;
 pub mod line;
+pub mod list;
 pub mod memory;
 pub mod world;
