@@ -1,10 +1,11 @@
-//! "Callers": start, step and run, with their refusals in number order
-//! (reading "refusals"). A refused call leaves state and memory untouched.
+//! "Callers": start, step and run, with their refusals in number order, but 10
+//! right after 3 (reading "refusals"). A refused call leaves state and memory
+//! untouched.
 
 use crate::memory::{Layout, MEMORY_BYTES};
 use crate::state::Machine;
 use crate::step::Outcome;
-use crate::time::timetable_valid;
+use crate::time::{timetable_valid, trace_valid, Lists, Trace};
 
 /// "Run takes a budget of 0 to 1,000,000 steps."
 pub const MOST_STEPS: u64 = 1_000_000;
@@ -43,11 +44,19 @@ impl Machine {
         memory: &mut [u8],
         layout: &Layout,
         stamps: &[u64],
+        trace: Trace,
     ) -> Result<Outcome, u8> {
-        if let Some(number) = self.refusal(memory, layout, stamps, None) {
+        if let Some(number) = self.refusal(memory, layout, stamps, trace, None) {
             return Err(number);
         }
-        Ok(self.one_step(memory, layout, stamps))
+        Ok(self.one_step(
+            memory,
+            layout,
+            Lists {
+                timetable: stamps,
+                trace,
+            },
+        ))
     }
 
     pub fn run(
@@ -55,17 +64,22 @@ impl Machine {
         memory: &mut [u8],
         layout: &Layout,
         stamps: &[u64],
+        trace: Trace,
         budget: u64,
     ) -> Result<(End, u64), u8> {
-        if let Some(number) = self.refusal(memory, layout, stamps, Some(budget)) {
+        if let Some(number) = self.refusal(memory, layout, stamps, trace, Some(budget)) {
             return Err(number);
         }
+        let lists = Lists {
+            timetable: stamps,
+            trace,
+        };
         let mut steps = 0;
         loop {
             if let Some(end) = self.end(steps, budget) {
                 return Ok((end, steps));
             }
-            self.one_step(memory, layout, stamps);
+            self.one_step(memory, layout, lists);
             steps += 1;
         }
     }
@@ -83,12 +97,14 @@ impl Machine {
         }
     }
 
-    /// "A call tests the refusals of what it takes, in number order."
+    /// "A call tests the refusals of what it takes, in number order." "10
+    /// "trace" [...], tested right after 3."
     fn refusal(
         &self,
         memory: &[u8],
         layout: &Layout,
         stamps: &[u64],
+        trace: Trace,
         budget: Option<u64>,
     ) -> Option<u8> {
         if memory.len() != MEMORY_BYTES {
@@ -99,6 +115,9 @@ impl Machine {
         }
         if !timetable_valid(stamps) {
             return Some(3);
+        }
+        if !trace_valid(trace) {
+            return Some(10);
         }
         if !self.frame_valid(layout) {
             return Some(4);

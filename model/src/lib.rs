@@ -1,8 +1,9 @@
-//! A separate, literal interpreter of the machine of document 01.
+//! A separate, literal interpreter of the machine of document 01, with the
+//! ride trace of document 02, request a.
 //!
-//! One module a paragraph, nothing clever. Quotations are from document 01.
-//! It was written from that and from the readings of it that stand in
-//! docs/DECISIONS.md, not from crates/.
+//! One module a paragraph, nothing clever. Quotations are from document 01,
+//! those on the trace from document 02. It was written from them and from the
+//! readings of them that stand in docs/DECISIONS.md, not from crates/.
 //! Build with cargo, or:
 //!
 //! ```text
@@ -16,8 +17,8 @@
 //!
 //! - sides: a first word in code has its second in code; a first word outside
 //!   has its second outside, neither in code nor in data.
-//! - refusals: start takes 1; step 1 2 3 4 6; run 1 2 3 4 5 6; access 2. They
-//!   come before the definition, on a halted machine too.
+//! - refusals: start takes 1; step 1 2 3 10 4 6; run 1 2 3 10 4 5 6; access 2.
+//!   They come before the definition, on a halted machine too.
 //! - no stack: RETI while a visit is held reads no stack, so reset 7 does not
 //!   come up.
 //! - flags: r2 as a destination takes the result first, then C Z N V are laid
@@ -45,4 +46,4 @@ pub use memory::{read_word, write_word, Layout, Right, MEMORY_BYTES};
 pub use sheet::{bench, read_sheet, Sheet};
 pub use state::{Machine, SavedContext, PC, SP, SR, VECTOR, ZERO};
 pub use step::Outcome;
-pub use time::{timetable_valid, LAST_STAMP, MOST_STAMPS};
+pub use time::{timetable_valid, trace_valid, Trace, LAST_STAMP, MOST_STAMPS, NO_TRACE};

@@ -1,9 +1,10 @@
-//! "Bench sheet": the sheet's reader and the transcript.
+//! "Bench sheet": the sheet's reader and the transcript; with the T lines of
+//! document 02, request a.
 
 use crate::calls::MOST_STEPS;
 use crate::memory::{write_word, Layout, MEMORY_BYTES};
 use crate::state::{Machine, PC, SR};
-use crate::time::{LAST_STAMP, MOST_STAMPS};
+use crate::time::{Lists, Trace, LAST_STAMP, MOST_STAMPS};
 
 /// Refusal 8: "above 32,768 bytes".
 const MOST_SHEET_BYTES: usize = 32_768;
@@ -13,6 +14,8 @@ pub struct Sheet {
     pub layout: Layout,
     pub memory: Vec<u8>,
     pub stamps: Vec<u64>,
+    pub trace_stamps: Vec<u64>,
+    pub trace_words: Vec<u16>,
     pub budget: u64,
 }
 
@@ -61,7 +64,8 @@ fn decimal(field: &[u8]) -> Option<u64> {
 }
 
 /// "First L and the five addresses; then any lines of M, even address, word,
-/// or A, stamp; last G, budget." The error is refusal number and line: "On a
+/// or A, stamp; last G, budget." "New sheet lines T, stamp, word may stand
+/// among the M and A lines." The error is refusal number and line: "On a
 /// sheet 8 comes before all, then the earlier line, then on one line 7 before
 /// the rest."
 pub fn read_sheet(sheet: &[u8]) -> Result<Sheet, (u8, usize)> {
@@ -72,6 +76,8 @@ pub fn read_sheet(sheet: &[u8]) -> Result<Sheet, (u8, usize)> {
     // "Later M lines win; other memory is 0."
     let mut memory = vec![0; MEMORY_BYTES];
     let mut stamps: Vec<u64> = Vec::new();
+    let mut trace_stamps: Vec<u64> = Vec::new();
+    let mut trace_words: Vec<u16> = Vec::new();
     let mut budget = None;
     let mut number = 0;
     let mut rest = sheet;
@@ -105,12 +111,19 @@ pub fn read_sheet(sheet: &[u8]) -> Result<Sheet, (u8, usize)> {
         } else if fields[0] == b"A" && fields.len() == 2 {
             let stamp = decimal(fields[1]).ok_or((7, number))?;
             let too_many = stamps.len() == MOST_STAMPS;
-            let out_of_range = stamp < 1 || stamp > LAST_STAMP;
-            let not_rising = stamps.last().is_some_and(|&last| stamp <= last);
-            if too_many || out_of_range || not_rising {
+            if too_many || !follows(&stamps, stamp) {
                 return Err((3, number));
             }
             stamps.push(stamp);
+        } else if fields[0] == b"T" && fields.len() == 3 {
+            let stamp = decimal(fields[1]).ok_or((7, number))?;
+            let word = hexadecimal(fields[2]).ok_or((7, number))?;
+            // 4,097 lines of 9 bytes or more are above 32,768 bytes.
+            if !follows(&trace_stamps, stamp) {
+                return Err((10, number));
+            }
+            trace_stamps.push(stamp);
+            trace_words.push(word);
         } else if fields[0] == b"G" && fields.len() == 2 {
             let read = decimal(fields[1]).ok_or((7, number))?;
             if read > MOST_STEPS {
@@ -129,8 +142,17 @@ pub fn read_sheet(sheet: &[u8]) -> Result<Sheet, (u8, usize)> {
         layout,
         memory,
         stamps,
+        trace_stamps,
+        trace_words,
         budget,
     })
+}
+
+/// Whether a stamp is in its range and above the last one of its own list: "A
+/// and T lists rise each by itself".
+fn follows(stamps: &[u64], stamp: u64) -> bool {
+    let rising = stamps.last().is_none_or(|&last| last < stamp);
+    1 <= stamp && stamp <= LAST_STAMP && rising
 }
 
 fn read_layout(fields: &[&[u8]]) -> Option<Layout> {
@@ -153,8 +175,17 @@ fn transcript(sheet: Sheet) -> Vec<u8> {
         layout,
         mut memory,
         stamps,
+        trace_stamps,
+        trace_words,
         budget,
     } = sheet;
+    let lists = Lists {
+        timetable: &stamps,
+        trace: Trace {
+            stamps: &trace_stamps,
+            words: &trace_words,
+        },
+    };
     let mut text = String::from("step\tkind\tclock\tpc\tsr\n");
     let mut machine = Machine::start_state(&memory);
     let mut steps = 0;
@@ -163,7 +194,7 @@ fn transcript(sheet: Sheet) -> Vec<u8> {
             text += &format!("{}\t{}\t{}\n", end.letter(), steps, machine.clock);
             return text.into_bytes();
         }
-        let outcome = machine.one_step(&mut memory, &layout, &stamps);
+        let outcome = machine.one_step(&mut memory, &layout, lists);
         steps += 1;
         text += &format!(
             "{}\t{}\t{}\t{:04X}\t{:04X}\n",

@@ -4,6 +4,7 @@ use crate::arithmetic::{compute, compute_not, C, GIE, N, V, Z};
 use crate::instruction::{begins, cycles, decode, words, Instruction, Operand, Operation};
 use crate::memory::{read_word, write_word, Layout, Right};
 use crate::state::{Machine, SavedContext, PC, SP, SR, VECTOR};
+use crate::time::Lists;
 
 /// The kinds of the bench sheet; a reset with the number of its name.
 #[derive(Clone, Copy, Debug, PartialEq, Eq)]
@@ -34,12 +35,7 @@ impl Outcome {
 
 impl Machine {
     /// The definition's step.
-    pub(crate) fn one_step(
-        &mut self,
-        memory: &mut [u8],
-        layout: &Layout,
-        stamps: &[u64],
-    ) -> Outcome {
+    pub(crate) fn one_step(&mut self, memory: &mut [u8], layout: &Layout, lists: Lists) -> Outcome {
         // "A halted machine answers "halted" unchanged."
         if self.halted {
             return Outcome::Halted;
@@ -48,18 +44,18 @@ impl Machine {
         // reset by that name."
         let instruction = match self.tried(memory, layout) {
             Ok(instruction) => instruction,
-            Err(cause) => return self.reset(memory, stamps, cause),
+            Err(cause) => return self.reset(memory, lists, cause),
         };
         // "RETI while a visit is held, also from a nested service routine."
         if instruction == Instruction::Reti && self.held.is_some() {
-            return self.return_to_held(layout, stamps);
+            return self.return_to_held(layout, lists);
         }
         // "Otherwise the instruction acts, its cycles pass, and its address
         // becomes the previous one."
         let address = self.registers[PC];
         let before = self.registers;
-        self.act(memory, layout, &instruction);
-        self.pass(cycles(&instruction) as u64, stamps);
+        self.act(memory, layout, lists, &instruction);
+        self.pass(cycles(&instruction) as u64, lists);
         if let Instruction::Out(s) = instruction {
             self.set_alarm(before[s as usize]);
         }
@@ -71,13 +67,13 @@ impl Machine {
         }
         // "Then, if GIE is set and the slot filled."
         if layout.inside(address) {
-            if self.padded_check(layout, stamps) {
+            if self.padded_check(layout, lists) {
                 Outcome::Padded
             } else {
                 Outcome::Ran
             }
         } else {
-            self.plain_check(memory, layout, stamps)
+            self.plain_check(memory, layout, lists)
         }
     }
 
@@ -152,8 +148,8 @@ impl Machine {
     /// dropped, registers become 0, pc becomes the word at FFFE less its bit
     /// 0, the previous address is FFFE. An alarm not due in those cycles
     /// stays; memory too."
-    fn reset(&mut self, memory: &[u8], stamps: &[u64], cause: u8) -> Outcome {
-        self.pass(4, stamps);
+    fn reset(&mut self, memory: &[u8], lists: Lists, cause: u8) -> Outcome {
+        self.pass(4, lists);
         self.slot = None;
         self.held = None;
         self.registers = [0; 16];
@@ -164,7 +160,7 @@ impl Machine {
 
     /// "The instruction acts": its registers and bytes. OUT acts after its
     /// cycles; RETI here has no visit held.
-    fn act(&mut self, memory: &mut [u8], layout: &Layout, instruction: &Instruction) {
+    fn act(&mut self, memory: &mut [u8], layout: &Layout, lists: Lists, instruction: &Instruction) {
         // "Reading r0 as an operand gives the instruction's own address."
         let before = self.registers;
         let address = before[PC];
@@ -173,9 +169,9 @@ impl Machine {
         self.registers[PC] = address.wrapping_add(2 * words(instruction) as u16);
         match *instruction {
             Instruction::Hlt | Instruction::Nop | Instruction::Out(_) => {}
-            // "IN gives the clock's low 16 bits at the instruction's start."
+            // IN's cycles have not passed yet.
             Instruction::In(d) => {
-                self.write_register(inside, d as usize, (self.clock % 65_536) as u16);
+                self.write_register(inside, d as usize, self.device_word(lists));
             }
             // "JZ jumps if Z is set."
             Instruction::Jz(s) => {
@@ -233,14 +229,14 @@ impl Machine {
     /// "Plain, instruction not inside: the slot empties; pc goes to sp - 2, sr
     /// to sp - 4, sp falls by 4, sr becomes 0, pc the service address; 6
     /// cycles pass. If either word is code or data, reset instead (name 8)."
-    fn plain_check(&mut self, memory: &mut [u8], layout: &Layout, stamps: &[u64]) -> Outcome {
+    fn plain_check(&mut self, memory: &mut [u8], layout: &Layout, lists: Lists) -> Outcome {
         if !self.interrupt_due() {
             return Outcome::Ran;
         }
         let pc_place = self.registers[SP].wrapping_sub(2);
         let sr_place = self.registers[SP].wrapping_sub(4);
         if !layout.outside(pc_place) || !layout.outside(sr_place) {
-            return self.reset(memory, stamps, 8);
+            return self.reset(memory, lists, 8);
         }
         self.slot = None;
         write_word(memory, pc_place, self.registers[PC]);
@@ -249,7 +245,7 @@ impl Machine {
         self.registers[SR] = 0;
         self.registers[PC] = layout.service;
         self.previous = VECTOR;
-        self.pass(6, stamps);
+        self.pass(6, lists);
         Outcome::Plain
     }
 
@@ -257,7 +253,7 @@ impl Machine {
     /// counted. 6 - age cycles pass, the slot empties, 6 more pass. Registers,
     /// previous address and age are held. Registers become 0, pc the service
     /// address." The answer: whether a padded service has started.
-    fn padded_check(&mut self, layout: &Layout, stamps: &[u64]) -> bool {
+    fn padded_check(&mut self, layout: &Layout, lists: Lists) -> bool {
         if !self.interrupt_due() {
             return false;
         }
@@ -265,9 +261,9 @@ impl Machine {
             return false;
         };
         let age = (self.clock - stamp).min(6);
-        self.pass(6 - age, stamps);
+        self.pass(6 - age, lists);
         self.slot = None;
-        self.pass(6, stamps);
+        self.pass(6, lists);
         self.held = Some(SavedContext {
             registers: self.registers,
             previous: self.previous,
@@ -290,20 +286,20 @@ impl Machine {
     /// 6 cycles pass, the visit stays held. Else registers and previous
     /// address return, age cycles pass, and the padded check is made once
     /// more."
-    fn return_to_held(&mut self, layout: &Layout, stamps: &[u64]) -> Outcome {
-        self.pass(cycles(&Instruction::Reti) as u64, stamps);
+    fn return_to_held(&mut self, layout: &Layout, lists: Lists) -> Outcome {
+        self.pass(cycles(&Instruction::Reti) as u64, lists);
         if self.slot.is_some() {
             self.slot = None;
             self.start_service(layout);
-            self.pass(6, stamps);
+            self.pass(6, lists);
             return Outcome::Chained;
         }
         if let Some(held) = self.held.take() {
             self.registers = held.registers;
             self.previous = held.previous;
-            self.pass(held.age, stamps);
+            self.pass(held.age, lists);
         }
-        if self.padded_check(layout, stamps) {
+        if self.padded_check(layout, lists) {
             Outcome::Padded
         } else {
             Outcome::Back

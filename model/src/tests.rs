@@ -1,4 +1,5 @@
-//! Tests. Expected values are worked out by hand from document 01.
+//! Tests. Expected values are worked out by hand from document 01, those of
+//! the ride trace from document 02, request a.
 
 use crate::*;
 
@@ -60,16 +61,17 @@ fn output(text: &str) -> Vec<u8> {
 
 /// Document 01's sheet, with these A lines.
 fn paper_sheet(stamps: &[u64]) -> Vec<u8> {
-    let mut text = String::from(
+    let lines: Vec<String> = stamps.iter().map(|stamp| format!("A {stamp} / ")).collect();
+    paper_sheet_with(&lines.concat())
+}
+
+/// Document 01's sheet, with these lines, each with its slash, for its A line.
+fn paper_sheet_with(lines: &str) -> Vec<u8> {
+    sheet(&format!(
         "L 8000 8008 8100 8104 4500 / M FFFE 4400 / M 4400 4032 / M 4402 0008 / M 4404 4030 \
          / M 4406 8000 / M 4500 1300 / M 4600 0001 / M 8000 4303 / M 8002 4035 / M 8004 4600 \
-         / M 8006 4500",
-    );
-    for stamp in stamps {
-        text += &format!(" / A {stamp}");
-    }
-    text += " / G 20";
-    sheet(&text)
+         / M 8006 4500 / {lines}G 20"
+    ))
 }
 
 /// The memory of document 01's sheet.
@@ -95,8 +97,22 @@ fn line(bytes: &[u8], number: usize) -> String {
     text.lines().nth(number).unwrap().replace('\t', " ")
 }
 
+/// Three records, at 10, 20 and 30.
+const RIDE: Trace = Trace {
+    stamps: &[10, 20, 30],
+    words: &[0x1111, 0x2222, 0x3333],
+};
+
+/// The trace of a sheet, of words that do not matter.
+fn trace_at(stamps: &[u64]) -> Trace<'_> {
+    Trace {
+        stamps,
+        words: &[0; 4100][..stamps.len()],
+    }
+}
+
 fn one(machine: &mut Machine, memory: &mut [u8]) -> Outcome {
-    machine.step(memory, &LAYOUT, &[]).unwrap()
+    machine.step(memory, &LAYOUT, &[], NO_TRACE).unwrap()
 }
 
 // "Bench sheet"
@@ -134,8 +150,14 @@ fn stamp_4_is_plain_in_step_2_at_10() {
     assert_eq!(line(&bench(&paper_sheet(&[4])), 2), "2 I 10 4500 0000");
     let mut memory = paper_memory();
     let mut machine = Machine::start(&memory).unwrap();
-    assert_eq!(machine.step(&mut memory, &LAYOUT, &[4]), Ok(Outcome::Ran));
-    assert_eq!(machine.step(&mut memory, &LAYOUT, &[4]), Ok(Outcome::Plain));
+    assert_eq!(
+        machine.step(&mut memory, &LAYOUT, &[4], NO_TRACE),
+        Ok(Outcome::Ran)
+    );
+    assert_eq!(
+        machine.step(&mut memory, &LAYOUT, &[4], NO_TRACE),
+        Ok(Outcome::Plain)
+    );
     assert_eq!(machine.clock, 10);
     assert_eq!(machine.registers[SP], 0xFFFC);
     assert_eq!(machine.previous, 0xFFFE);
@@ -198,8 +220,10 @@ fn settled_number_of_stamps() {
     let mut memory = paper_memory();
     let all: Vec<u64> = (1..=4097).collect();
     let mut machine = Machine::start(&memory).unwrap();
-    assert_eq!(machine.step(&mut memory, &LAYOUT, &all), Err(3));
-    assert!(machine.step(&mut memory, &LAYOUT, &all[..4096]).is_ok());
+    assert_eq!(machine.step(&mut memory, &LAYOUT, &all, NO_TRACE), Err(3));
+    assert!(machine
+        .step(&mut memory, &LAYOUT, &all[..4096], NO_TRACE)
+        .is_ok());
     // The same on a sheet: line 1 is L, the stamps are lines 2 to 4098.
     let mut text = String::from("L\t8000\t8008\t8100\t8104\t4500\n");
     for stamp in 1..=4096 {
@@ -220,14 +244,20 @@ fn settled_clock() {
     let mut machine = Machine::start(&memory).unwrap();
     machine.clock = CLOCK_LIMIT + 1;
     let before = machine;
-    assert_eq!(machine.step(&mut memory, &LAYOUT, &[]), Err(6));
-    assert_eq!(machine.run(&mut memory, &LAYOUT, &[], 5), Err(6));
+    assert_eq!(machine.step(&mut memory, &LAYOUT, &[], NO_TRACE), Err(6));
+    assert_eq!(machine.run(&mut memory, &LAYOUT, &[], NO_TRACE, 5), Err(6));
     assert_eq!(machine, before);
     machine.clock = CLOCK_LIMIT;
     let mut other = machine;
-    assert_eq!(machine.step(&mut memory, &LAYOUT, &[]), Ok(Outcome::Ran));
+    assert_eq!(
+        machine.step(&mut memory, &LAYOUT, &[], NO_TRACE),
+        Ok(Outcome::Ran)
+    );
     assert_eq!(machine.clock, CLOCK_LIMIT + 2);
-    assert_eq!(other.run(&mut memory, &LAYOUT, &[], 5), Ok((End::Clock, 1)));
+    assert_eq!(
+        other.run(&mut memory, &LAYOUT, &[], NO_TRACE, 5),
+        Ok((End::Clock, 1))
+    );
 }
 
 // "Memory, sections, registers"
@@ -552,7 +582,10 @@ fn earliest_request_fills_the_slot() {
         let mut machine = machine_at(0xFFFE, 0x4400);
         machine.clock = 10;
         machine.alarm = alarm;
-        assert_eq!(machine.step(&mut memory, &LAYOUT, stamps), Ok(Outcome::Ran));
+        assert_eq!(
+            machine.step(&mut memory, &LAYOUT, stamps, NO_TRACE),
+            Ok(Outcome::Ran)
+        );
         assert_eq!(machine.slot, slot);
         assert_eq!(machine.alarm, alarm.filter(|&stamp| stamp > 12));
     }
@@ -561,7 +594,10 @@ fn earliest_request_fills_the_slot() {
     machine.clock = 10;
     machine.slot = Some(3);
     machine.alarm = Some(11);
-    assert_eq!(machine.step(&mut memory, &LAYOUT, &[12]), Ok(Outcome::Ran));
+    assert_eq!(
+        machine.step(&mut memory, &LAYOUT, &[12], NO_TRACE),
+        Ok(Outcome::Ran)
+    );
     assert_eq!((machine.slot, machine.alarm), (Some(3), None));
 }
 
@@ -668,7 +704,7 @@ fn each_cause() {
         if held {
             machine.held = visit();
         }
-        let outcome = machine.step(&mut memory, &LAYOUT, &[102]);
+        let outcome = machine.step(&mut memory, &LAYOUT, &[102], NO_TRACE);
         assert_eq!(outcome, Ok(Outcome::Reset(cause)), "{pc:04X} {words:04X?}");
         let mut expected = Machine::start(&memory).unwrap();
         expected.clock = 104;
@@ -737,7 +773,7 @@ fn halting() {
     machine.clock = 9;
     machine.registers[SR] = GIE;
     assert_eq!(
-        machine.step(&mut memory, &LAYOUT, &[10]),
+        machine.step(&mut memory, &LAYOUT, &[10], NO_TRACE),
         Ok(Outcome::Halted)
     );
     assert!(machine.halted);
@@ -745,15 +781,15 @@ fn halting() {
     assert_eq!((machine.registers[PC], machine.previous), (0x4402, 0x4400));
     let before = machine;
     assert_eq!(
-        machine.step(&mut memory, &LAYOUT, &[10]),
+        machine.step(&mut memory, &LAYOUT, &[10], NO_TRACE),
         Ok(Outcome::Halted)
     );
     assert_eq!(
-        machine.run(&mut memory, &LAYOUT, &[10], 0),
+        machine.run(&mut memory, &LAYOUT, &[10], NO_TRACE, 0),
         Ok((End::Halted, 0))
     );
     assert_eq!(
-        machine.run(&mut memory, &LAYOUT, &[10], 7),
+        machine.run(&mut memory, &LAYOUT, &[10], NO_TRACE, 7),
         Ok((End::Halted, 0))
     );
     assert_eq!(machine, before);
@@ -782,7 +818,7 @@ fn plain_interrupt_and_its_barred_stack() {
         machine.registers[SP] = sp;
         machine.registers[SR] = GIE | C;
         machine.held = visit();
-        let outcome = machine.step(&mut memory, &LAYOUT, &[12, 17, 20]);
+        let outcome = machine.step(&mut memory, &LAYOUT, &[12, 17, 20], NO_TRACE);
         if barred {
             // The store stands and the vector is read after it.
             assert_eq!(outcome, Ok(Outcome::Reset(8)), "{sp:04X}");
@@ -825,7 +861,7 @@ fn padded_interrupt_holds_the_visit() {
             machine.registers[6] = 0x0006;
             machine.registers[7] = 0x0007;
             machine.registers[SR] = GIE;
-            let outcome = machine.step(&mut memory, &LAYOUT, &stamps);
+            let outcome = machine.step(&mut memory, &LAYOUT, &stamps, NO_TRACE);
             assert_eq!(outcome, Ok(Outcome::Padded));
             assert_eq!(machine.clock, waited);
             assert_eq!(
@@ -912,7 +948,7 @@ fn reti_with_a_visit_held_reads_no_stack() {
         assert_eq!(machine.registers, visit().unwrap().registers);
         assert_eq!(machine.held, None);
         // 106 is in the 6 cycles of the chained service.
-        let outcome = pending.step(&mut memory, &LAYOUT, &[104, 106]);
+        let outcome = pending.step(&mut memory, &LAYOUT, &[104, 106], NO_TRACE);
         assert_eq!(outcome, Ok(Outcome::Chained));
         assert_eq!((pending.clock, pending.slot), (111, Some(106)));
         assert_eq!((pending.registers[PC], pending.registers[SP]), (0x4500, 0));
@@ -936,7 +972,7 @@ fn reti_with_no_visit_makes_the_plain_check() {
 // "Callers"
 
 #[test]
-fn refusals_in_number_order() {
+fn refusals_in_order() {
     let mut memory = paper_memory();
     let good = Machine::start(&memory).unwrap();
     assert_eq!(Machine::start(&memory[..65_535]), Err(1));
@@ -954,33 +990,60 @@ fn refusals_in_number_order() {
     let mut short = vec![0; 65_535];
 
     let mut m = bad_frame;
-    assert_eq!(m.run(&mut short, &bad_layout, &[0], 1_000_001), Err(1));
-    assert_eq!(m.run(&mut memory, &bad_layout, &[0], 1_000_001), Err(2));
-    assert_eq!(m.run(&mut memory, &LAYOUT, &[0], 1_000_001), Err(3));
-    assert_eq!(m.run(&mut memory, &LAYOUT, &[1], 1_000_001), Err(4));
-    assert_eq!(m.step(&mut short, &bad_layout, &[0]), Err(1));
-    assert_eq!(m.step(&mut memory, &bad_layout, &[0]), Err(2));
-    assert_eq!(m.step(&mut memory, &LAYOUT, &[0]), Err(3));
-    assert_eq!(m.step(&mut memory, &LAYOUT, &[1]), Err(4));
+    assert_eq!(
+        m.run(&mut short, &bad_layout, &[0], NO_TRACE, 1_000_001),
+        Err(1)
+    );
+    assert_eq!(
+        m.run(&mut memory, &bad_layout, &[0], NO_TRACE, 1_000_001),
+        Err(2)
+    );
+    assert_eq!(
+        m.run(&mut memory, &LAYOUT, &[0], NO_TRACE, 1_000_001),
+        Err(3)
+    );
+    assert_eq!(
+        m.run(&mut memory, &LAYOUT, &[1], NO_TRACE, 1_000_001),
+        Err(4)
+    );
+    assert_eq!(m.step(&mut short, &bad_layout, &[0], NO_TRACE), Err(1));
+    assert_eq!(m.step(&mut memory, &bad_layout, &[0], NO_TRACE), Err(2));
+    assert_eq!(m.step(&mut memory, &LAYOUT, &[0], NO_TRACE), Err(3));
+    assert_eq!(m.step(&mut memory, &LAYOUT, &[1], NO_TRACE), Err(4));
     assert_eq!(m, bad_frame);
     let mut m = bad_clock;
-    assert_eq!(m.run(&mut memory, &LAYOUT, &[1], 1_000_001), Err(5));
-    assert_eq!(m.run(&mut memory, &LAYOUT, &[1], 1_000_000), Err(6));
-    assert_eq!(m.step(&mut memory, &LAYOUT, &[1]), Err(6));
+    assert_eq!(
+        m.run(&mut memory, &LAYOUT, &[1], NO_TRACE, 1_000_001),
+        Err(5)
+    );
+    assert_eq!(
+        m.run(&mut memory, &LAYOUT, &[1], NO_TRACE, 1_000_000),
+        Err(6)
+    );
+    assert_eq!(m.step(&mut memory, &LAYOUT, &[1], NO_TRACE), Err(6));
     m.halted = true;
-    assert_eq!(m.step(&mut memory, &LAYOUT, &[1]), Err(6));
+    assert_eq!(m.step(&mut memory, &LAYOUT, &[1], NO_TRACE), Err(6));
     let mut m = good;
-    assert_eq!(m.run(&mut memory, &LAYOUT, &[1], 1_000_001), Err(5));
+    assert_eq!(
+        m.run(&mut memory, &LAYOUT, &[1], NO_TRACE, 1_000_001),
+        Err(5)
+    );
     assert_eq!(m, good);
     assert_eq!(memory, paper_memory());
     assert_eq!(
-        m.run(&mut memory, &LAYOUT, &[6], 1_000_000),
+        m.run(&mut memory, &LAYOUT, &[6], NO_TRACE, 1_000_000),
         Ok((End::Halted, 7))
     );
     let mut m = good;
-    assert_eq!(m.run(&mut memory, &LAYOUT, &[6], 0), Ok((End::Spent, 0)));
+    assert_eq!(
+        m.run(&mut memory, &LAYOUT, &[6], NO_TRACE, 0),
+        Ok((End::Spent, 0))
+    );
     assert_eq!(m, good);
-    assert_eq!(m.run(&mut memory, &LAYOUT, &[6], 3), Ok((End::Spent, 3)));
+    assert_eq!(
+        m.run(&mut memory, &LAYOUT, &[6], NO_TRACE, 3),
+        Ok((End::Spent, 3))
+    );
 }
 
 #[test]
@@ -1037,6 +1100,407 @@ fn frame_rules() {
     assert!(!held(&|h| h.previous = 0x8008));
     assert!(!held(&|h| h.previous = 0x8001));
     assert!(!held(&|h| h.previous = 0x8100));
+}
+
+// Document 02, request a: "Ride trace as the device"
+
+#[test]
+fn in_gives_the_last_records_word() {
+    // IN 6 takes 2 cycles; the clock at its start counts. "0 before the
+    // first"; a record at that clock counts, one that is due in IN's own
+    // cycles (10 from 8 and 9, 20 from 18 and 19) does not.
+    let mut memory = world(&[(0x4400, 0x0016)]);
+    for (clock, word) in [
+        (0, 0),
+        (7, 0),
+        (8, 0),
+        (9, 0),
+        (10, 0x1111),
+        (11, 0x1111),
+        (18, 0x1111),
+        (19, 0x1111),
+        (20, 0x2222),
+        (29, 0x2222),
+        (30, 0x3333),
+        (31, 0x3333),
+        (65_536 + 5, 0x3333),
+        (CLOCK_LIMIT, 0x3333),
+    ] {
+        let mut machine = machine_at(0xFFFE, 0x4400);
+        machine.clock = clock;
+        machine.registers[6] = 0xAAAA;
+        let outcome = machine.step(&mut memory, &LAYOUT, &[], RIDE);
+        assert_eq!(outcome, Ok(Outcome::Ran));
+        assert_eq!(machine.registers[6], word, "at {clock}");
+        assert_eq!(machine.clock, clock + 2);
+    }
+}
+
+#[test]
+fn an_empty_trace_gives_the_clock_and_records_ahead_give_0() {
+    let mut memory = world(&[(0x4400, 0x0016)]);
+    let ahead = Trace {
+        stamps: &[LAST_STAMP - 1, LAST_STAMP],
+        words: &[0x1111, 0x2222],
+    };
+    for (trace, clock, word) in [
+        (NO_TRACE, 0x1_2345_6789, 0x6789),
+        (NO_TRACE, 0, 0),
+        (ahead, 0x1_2345_6789, 0),
+        (ahead, LAST_STAMP - 2, 0),
+        (ahead, LAST_STAMP - 1, 0x1111),
+        (ahead, LAST_STAMP, 0x2222),
+    ] {
+        // A timetable has no words: its stamps do not count for IN.
+        for stamps in [&[][..], &[1, 2, 3][..]] {
+            let mut machine = machine_at(0xFFFE, 0x4400);
+            machine.clock = clock;
+            let outcome = machine.step(&mut memory, &LAYOUT, stamps, trace);
+            assert_eq!(outcome, Ok(Outcome::Ran));
+            assert_eq!(machine.registers[6], word, "at {clock}");
+        }
+    }
+    // A word 0 in a record is no other than a word.
+    let zero = Trace {
+        stamps: &[1, 2],
+        words: &[5, 0],
+    };
+    for (clock, word) in [(1, 5), (2, 0), (3, 0)] {
+        let mut machine = machine_at(0xFFFE, 0x4400);
+        machine.clock = clock;
+        machine.step(&mut memory, &LAYOUT, &[], zero).unwrap();
+        assert_eq!(machine.registers[6], word);
+    }
+}
+
+#[test]
+fn in_writes_its_word_as_any_instruction_does() {
+    // To pc and sp without bit 0, to r3 not at all, to sr as it is.
+    let record = Trace {
+        stamps: &[1],
+        words: &[0x4601],
+    };
+    for (word, register, value) in [
+        (0x0010, PC, 0x4600),
+        (0x0011, SP, 0x4600),
+        (0x0012, SR, 0x4601),
+        (0x0013, ZERO, 0),
+        (0x001F, 15, 0x4601),
+    ] {
+        let mut memory = world(&[(0x4400, word)]);
+        let mut machine = machine_at(0xFFFE, 0x4400);
+        machine.clock = 1;
+        let outcome = machine.step(&mut memory, &LAYOUT, &[], record);
+        assert_eq!(outcome, Ok(Outcome::Ran));
+        assert_eq!(machine.registers[register], value);
+    }
+    // Inside it is barred, whatever the trace has.
+    let mut memory = world(&[(0x8000, 0x0016)]);
+    let mut machine = machine_at(0xFFFE, 0x8000);
+    machine.clock = 10;
+    let outcome = machine.step(&mut memory, &LAYOUT, &[], RIDE);
+    assert_eq!(outcome, Ok(Outcome::Reset(6)));
+    assert_eq!(machine.registers[6], 0);
+}
+
+#[test]
+fn a_run_reads_the_record_of_each_step() {
+    // IN 4, IN 5, IN 6, IN 7, HLT at 0, 2, 4, 6, 8: the records are at 2, 5, 6.
+    let ride = Trace {
+        stamps: &[2, 5, 6],
+        words: &[0x0A0A, 0x0B0B, 0x0C0C],
+    };
+    let words = [0x0014, 0x0015, 0x0016, 0x0017, 0x0001];
+    let mut memory = world(&[(0xFFFE, 0x4400)]);
+    for (place, word) in words.into_iter().enumerate() {
+        write_word(&mut memory, 0x4400 + 2 * place as u16, word);
+    }
+    let mut machine = Machine::start(&memory).unwrap();
+    let ran = machine.run(&mut memory, &LAYOUT, &[], ride, 9);
+    assert_eq!(ran, Ok((End::Halted, 5)));
+    assert_eq!(machine.registers[4..8], [0, 0x0A0A, 0x0A0A, 0x0C0C]);
+    assert_eq!((machine.clock, machine.slot), (9, Some(2)));
+}
+
+#[test]
+fn each_record_is_a_request() {
+    // The clock passes from 10 to 12: timetable, trace, alarm, slot after it.
+    let mut memory = world(&[(0x4400, 0x4030), (0x4402, 0x4400)]);
+    for (stamps, trace, alarm, slot) in [
+        (&[][..], &[9, 10, 11][..], None, Some(11)),
+        (&[][..], &[11, 12][..], None, Some(11)),
+        (&[][..], &[12][..], None, Some(12)),
+        (&[][..], &[13][..], None, None),
+        (&[][..], &[10][..], None, None),
+        (&[11][..], &[12][..], None, Some(11)),
+        (&[12][..], &[11][..], None, Some(11)),
+        (&[13][..], &[12][..], None, Some(12)),
+        (&[12][..], &[13][..], None, Some(12)),
+        (&[][..], &[12][..], Some(11), Some(11)),
+        (&[][..], &[11][..], Some(12), Some(11)),
+        (&[12][..], &[12][..], Some(11), Some(11)),
+    ] {
+        let mut machine = machine_at(0xFFFE, 0x4400);
+        machine.clock = 10;
+        machine.alarm = alarm;
+        let mut filled = machine;
+        filled.slot = Some(3);
+        let outcome = machine.step(&mut memory, &LAYOUT, stamps, trace_at(trace));
+        assert_eq!(outcome, Ok(Outcome::Ran));
+        assert_eq!(machine.slot, slot);
+        assert_eq!(machine.alarm, None);
+        // A record merges into a filled slot.
+        let outcome = filled.step(&mut memory, &LAYOUT, stamps, trace_at(trace));
+        assert_eq!(outcome, Ok(Outcome::Ran));
+        assert_eq!((filled.slot, filled.alarm), (Some(3), None));
+    }
+    // A plain service, 6 cycles after MOV #w 0 with GIE set.
+    let mut machine = machine_at(0xFFFE, 0x4400);
+    machine.clock = 10;
+    machine.registers[SR] = GIE;
+    let outcome = machine.step(&mut memory, &LAYOUT, &[], trace_at(&[12]));
+    assert_eq!(outcome, Ok(Outcome::Plain));
+    assert_eq!((machine.clock, machine.slot), (18, None));
+    // A record in a reset's 4 cycles is lost with the slot.
+    let mut machine = machine_at(0xFFFE, 0x4700);
+    let outcome = machine.step(&mut memory, &LAYOUT, &[], trace_at(&[4]));
+    assert_eq!(outcome, Ok(Outcome::Reset(3)));
+    assert_eq!((machine.clock, machine.slot), (4, None));
+}
+
+#[test]
+fn records_break_into_the_module_as_stamps_do() {
+    // Document 01's sheet, with its stamps or some of them in the trace.
+    let same = |lines: &str, stamps: &[u64]| {
+        let expected = bench(&paper_sheet(stamps));
+        assert_eq!(bench(&paper_sheet_with(lines)), expected, "{lines}");
+    };
+    same("T 6 1234 / ", &[6]);
+    same("T 4 1234 / ", &[4]);
+    same("T 5 1234 / ", &[5]);
+    same("T 7 1234 / ", &[7]);
+    // 12 merges in the padded wait, 13 and 23 chain, 24 falls in the return
+    // padding, 25 in the instruction after it.
+    for second in [7, 12, 13, 23, 24, 25] {
+        same(&format!("T 6 1234 / T {second} 5678 / "), &[6, second]);
+        same(&format!("A 6 / T {second} 5678 / "), &[6, second]);
+        same(&format!("T 6 1234 / A {second} / "), &[6, second]);
+        same(&format!("A {second} / T 6 1234 / "), &[6, second]);
+    }
+    // 12 cycles after its stamp.
+    let text = bench(&paper_sheet_with("T 6 1234 / "));
+    assert_eq!(line(&text, 4), "4 P 18 4500 0000");
+    let text = bench(&paper_sheet_with("A 6 / T 24 1234 / "));
+    assert_eq!(line(&text, 5), "5 P 36 4500 0000");
+}
+
+#[test]
+fn a_record_at_a_timetable_stamp_counts_once() {
+    // "One that equals a timetable stamp counts once": 6 is served at 18 and
+    // nothing chains; with 13 it chains once.
+    let once = bench(&paper_sheet(&[6]));
+    assert_eq!(bench(&paper_sheet_with("A 6 / T 6 1234 / ")), once);
+    assert_eq!(bench(&paper_sheet_with("T 6 1234 / A 6 / ")), once);
+    let chained = bench(&paper_sheet(&[6, 13]));
+    for lines in [
+        "A 6 / A 13 / T 6 0001 / T 13 0002 / ",
+        "A 6 / T 6 0001 / T 13 0002 / A 13 / ",
+        "T 6 0001 / A 6 / A 13 / ",
+    ] {
+        assert_eq!(bench(&paper_sheet_with(lines)), chained, "{lines}");
+    }
+}
+
+#[test]
+fn trace_rules() {
+    let of = |stamps: &[u64], words: usize| {
+        trace_valid(Trace {
+            stamps,
+            words: &[0x1234; 4100][..words],
+        })
+    };
+    assert!(of(&[], 0));
+    assert!(of(&[1], 1));
+    assert!(of(&[1, 2, LAST_STAMP], 3));
+    // Not equally many.
+    assert!(!of(&[], 1));
+    assert!(!of(&[1], 0));
+    assert!(!of(&[1, 2], 1));
+    assert!(!of(&[1, 2], 3));
+    // Out of range.
+    assert!(!of(&[0], 1));
+    assert!(!of(&[0, 1], 2));
+    assert!(of(&[LAST_STAMP], 1));
+    assert!(!of(&[LAST_STAMP + 1], 1));
+    assert!(!of(&[5, LAST_STAMP + 1], 2));
+    assert!(!of(&[u64::MAX], 1));
+    // Not rising.
+    assert!(!of(&[2, 2], 2));
+    assert!(!of(&[1, 3, 2], 3));
+    // Too many.
+    let all: Vec<u64> = (1..=4097).collect();
+    assert!(of(&all[..4095], 4095));
+    assert!(of(&all[..4096], 4096));
+    assert!(!of(&all[..4096], 4095));
+    assert!(!of(&all[..4096], 4097));
+    assert!(!of(&all, 4096));
+    assert!(!of(&all, 4097));
+}
+
+#[test]
+fn refusal_10_stands_right_after_3() {
+    let mut memory = paper_memory();
+    let good = Machine::start(&memory).unwrap();
+    let bad = Trace {
+        stamps: &[1],
+        words: &[],
+    };
+    let bad_layout = Layout {
+        service: 0x8000,
+        ..LAYOUT
+    };
+    let mut bad_frame = good;
+    bad_frame.registers[ZERO] = 1;
+    bad_frame.clock = CLOCK_LIMIT + 1;
+    let mut short = vec![0; 65_535];
+    for halted in [false, true] {
+        let mut m = bad_frame;
+        m.halted = halted;
+        let before = m;
+        assert_eq!(m.step(&mut short, &bad_layout, &[0], bad), Err(1));
+        assert_eq!(m.step(&mut memory, &bad_layout, &[0], bad), Err(2));
+        assert_eq!(m.step(&mut memory, &LAYOUT, &[0], bad), Err(3));
+        assert_eq!(m.step(&mut memory, &LAYOUT, &[1], bad), Err(10));
+        assert_eq!(m.step(&mut memory, &LAYOUT, &[1], RIDE), Err(4));
+        let most = 1_000_001;
+        assert_eq!(m.run(&mut short, &bad_layout, &[0], bad, most), Err(1));
+        assert_eq!(m.run(&mut memory, &bad_layout, &[0], bad, most), Err(2));
+        assert_eq!(m.run(&mut memory, &LAYOUT, &[0], bad, most), Err(3));
+        assert_eq!(m.run(&mut memory, &LAYOUT, &[1], bad, most), Err(10));
+        assert_eq!(m.run(&mut memory, &LAYOUT, &[1], RIDE, most), Err(4));
+        assert_eq!(m, before);
+        // Before 5 and 6 too, and a halted machine is no way out.
+        let mut m = good;
+        m.halted = halted;
+        m.clock = CLOCK_LIMIT + 1;
+        assert_eq!(m.step(&mut memory, &LAYOUT, &[], bad), Err(10));
+        assert_eq!(m.run(&mut memory, &LAYOUT, &[], bad, most), Err(10));
+        assert_eq!(m.run(&mut memory, &LAYOUT, &[], RIDE, most), Err(5));
+        assert_eq!(m.step(&mut memory, &LAYOUT, &[], RIDE), Err(6));
+        m.clock = 0;
+        assert_eq!(m.step(&mut memory, &LAYOUT, &[], bad), Err(10));
+        assert_eq!(m.run(&mut memory, &LAYOUT, &[], bad, 0), Err(10));
+    }
+    assert_eq!(memory, paper_memory());
+    // "Start takes the memory only": nothing else can be refused there.
+    assert!(Machine::start(&memory).is_ok());
+}
+
+#[test]
+fn t_lines() {
+    let good = "L 8000 8008 8100 8104 4500";
+    let says = |bytes: &[u8]| line(&bench(bytes), 0);
+    let of = |text: &str| says(&sheet(text));
+    let second = |field: &str| of(&format!("{good} / {field} / G 0"));
+    let taken = "step kind clock pc sr";
+    // 7: fields that can't be read.
+    for field in [
+        "T",
+        "T 5",
+        "T 5 ",
+        "T  1234",
+        "T 5 1234 5",
+        "T 5 1234 ",
+        "t 5 1234",
+        "TT 5 1234",
+        "T 05 1234",
+        "T 00 1234",
+        "T +5 1234",
+        "T -5 1234",
+        "T 5A 1234",
+        "T 10000000000000000000 1234",
+        "T 5 123",
+        "T 5 01234",
+        "T 5 12a4",
+        "T 5 12G4",
+        "T 5 0x12",
+        "T 5 +123",
+        "A 5 1234",
+        "M 4400 1234 5",
+    ] {
+        let text = format!("{good}\n{field}\nG 0\n").replace(' ', "\t");
+        assert_eq!(says(text.as_bytes()), "E 7 2", "{field}");
+    }
+    // 7 before 10 on one line.
+    assert_eq!(second("T 0 12"), "E 7 2");
+    assert_eq!(second("T 0 abcd"), "E 7 2");
+    assert_eq!(second("T 9999999999999999999 12345"), "E 7 2");
+    // 10 at its own line: out of range, not above the last T stamp.
+    assert_eq!(second("T 0 1234"), "E 10 2");
+    assert_eq!(second("T 1 1234"), taken);
+    assert_eq!(second("T 4611686018427387904 FFFF"), taken);
+    assert_eq!(second("T 4611686018427387905 FFFF"), "E 10 2");
+    assert_eq!(second("T 9999999999999999999 0000"), "E 10 2");
+    assert_eq!(second("T 5 0000 / T 5 0000"), "E 10 3");
+    assert_eq!(second("T 5 0000 / T 4 0000"), "E 10 3");
+    assert_eq!(second("T 5 0000 / T 6 0000"), taken);
+    assert_eq!(second("T 5 1234 / M 4400 0001 / A 7 / T 5 1234"), "E 10 5");
+    assert_eq!(second("T 5 1234 / M 4400 0001 / A 7 / T 6 1234"), taken);
+    // A and T lists rise each by itself.
+    assert_eq!(second("A 9 / T 5 0000 / A 10 / T 6 0000"), taken);
+    assert_eq!(second("T 9 0000 / A 5 / T 10 0000 / A 6"), taken);
+    assert_eq!(second("T 5 0000 / A 5 / T 6 0000 / A 6"), taken);
+    assert_eq!(second("A 5 / T 9 0000 / A 5"), "E 3 4");
+    assert_eq!(second("T 5 0000 / A 9 / T 5 0000"), "E 10 4");
+    // The earlier line first.
+    assert_eq!(second("T 0 0000 / A 0"), "E 10 2");
+    assert_eq!(second("A 0 / T 0 0000"), "E 3 2");
+    assert_eq!(second("T 0 0000 / X"), "E 10 2");
+    assert_eq!(second("X / T 0 0000"), "E 7 2");
+    assert_eq!(of(&format!("{good} / T 0 0000 / G 1000001")), "E 10 2");
+    assert_eq!(of(&format!("{good} / G 1000001 / T 0 0000")), "E 5 2");
+    // Among M and A lines only: not first, not after G; it is no last line.
+    assert_eq!(of(&format!("T 5 1234 / {good} / G 0")), "E 7 1");
+    assert_eq!(of(&format!("{good} / G 0 / T 5 1234")), "E 7 3");
+    assert_eq!(of(&format!("{good} / T 5 1234")), "E 7 3");
+    assert_eq!(
+        says(b"L\t8000\t8008\t8100\t8104\t4500\nT\t5\t1234"),
+        "E 7 2"
+    );
+    assert_eq!(of("L 8001 8008 8100 8104 4500 / T 0 0000"), "E 2 1");
+}
+
+#[test]
+fn a_sheets_trace_is_what_its_t_lines_say() {
+    let text = "L 8000 8008 8100 8104 4500 / T 3 00FF / A 2 / M FFFE 4400 / T 5 FF00 / G 7";
+    let read = read_sheet(&sheet(text)).ok().unwrap();
+    assert_eq!(read.stamps, [2]);
+    assert_eq!(read.trace_stamps, [3, 5]);
+    assert_eq!(read.trace_words, [0x00FF, 0xFF00]);
+    assert_eq!((read.budget, read_word(&read.memory, VECTOR)), (7, 0x4400));
+    // As many as a sheet can hold: 27 bytes of L, 4 of G, and lines of 9, 10,
+    // 11 and 12 bytes by the digits of their stamps: 9 * 9 + 90 * 10 + 900 *
+    // 11 = 10,881, and 1,821 of 12 in what is left, with 4 bytes to spare.
+    let mut text = String::from("L\t8000\t8008\t8100\t8104\t4500\n");
+    for stamp in 1..=2820 {
+        text += &format!("T\t{stamp}\t{stamp:04X}\n");
+    }
+    text += "G\t0\n";
+    assert_eq!(text.len(), 32_764);
+    let read = read_sheet(text.as_bytes()).ok().unwrap();
+    assert_eq!(read.trace_stamps, (1..=2820).collect::<Vec<u64>>());
+    assert_eq!(read.trace_words, (1..=2820).collect::<Vec<u16>>());
+    // The image reads it: IN 0 jumps where the last record says.
+    let text = "L 8000 8008 8100 8104 4500 / M FFFE 4400 / M 4400 4303 / M 4402 0010 \
+                / M 4600 0001 / T 1 4600 / T 2 4700 / G 9";
+    let expected = output(
+        "step kind clock pc sr
+         1 R 1 4402 0000
+         2 R 3 4600 0000
+         3 H 4 4602 0000
+         H 3 4",
+    );
+    assert_eq!(bench(&sheet(text)), expected);
 }
 
 // "Bench sheet", refusals
@@ -1139,6 +1603,15 @@ impl Random {
         (self.0 >> 33) % bound
     }
 
+    /// Rising stamps up to 2,000, fewer than so many.
+    fn stamps(&mut self, most: u64) -> Vec<u64> {
+        let count = self.below(most);
+        let mut stamps: Vec<u64> = (0..count).map(|_| 1 + self.below(2000)).collect();
+        stamps.sort();
+        stamps.dedup();
+        stamps
+    }
+
     /// Lays down instructions out of a pool from one address up to another.
     fn fill(&mut self, memory: &mut [u8], from: u16, to: u16, pool: &[&[u16]]) {
         let mut address = from;
@@ -1216,11 +1689,15 @@ fn laws_at_random() {
             ],
         );
         write_word(&mut memory, 0x4510, 0x1300);
-        let mut stamps: Vec<u64> = (0..random.below(200))
-            .map(|_| 1 + random.below(2000))
-            .collect();
-        stamps.sort();
-        stamps.dedup();
+        let stamps = random.stamps(200);
+        // Every second world has records too, some at timetable stamps.
+        let most = if seed % 2 == 0 { 1 } else { 100 };
+        let records = random.stamps(most);
+        let words: Vec<u16> = records.iter().map(|&stamp| stamp as u16).collect();
+        let trace = Trace {
+            stamps: &records,
+            words: &words,
+        };
 
         let mut machine = Machine::start(&memory).unwrap();
         // A visit under way: the clock at its start, what the law counts.
@@ -1241,7 +1718,7 @@ fn laws_at_random() {
             let first = read_word(&memory, pc);
             let second = read_word(&memory, pc.wrapping_add(2));
             let own = decode(first, second).map_or(0, |(i, _)| cycles(&i) as u64);
-            let outcome = machine.step(&mut memory, &layout, &stamps).unwrap();
+            let outcome = machine.step(&mut memory, &layout, &stamps, trace).unwrap();
             let added = machine.clock - before.clock;
             assert!((1..=23).contains(&added));
             assert!(machine.frame_valid(&layout));
@@ -1250,11 +1727,8 @@ fn laws_at_random() {
             if outcome == Outcome::Padded {
                 assert_eq!(before.slot, None);
                 let from = before.clock + if none_held { 0 } else { 5 };
-                let request = stamps.iter().copied().find(|&stamp| stamp > from);
-                let request = [request, before.alarm.filter(|&stamp| stamp > from)]
-                    .into_iter()
-                    .flatten()
-                    .min();
+                let requests = stamps.iter().chain(&records).chain(&before.alarm);
+                let request = requests.copied().filter(|&stamp| stamp > from).min();
                 assert_eq!(machine.clock, request.unwrap() + 12);
             }
 

@@ -5,13 +5,17 @@
 //! one space. A line that begins with # is repeated.
 //!
 //! ```text
-//! W            a new world: memory 0, document 01's layout, no stamps,
-//!              nothing but 0 in the state, previous address FFFE
+//! W            a new world: memory 0, document 01's layout, no stamps, an
+//!              empty trace, nothing but 0 in the state, previous address FFFE
 //! L a b c d e  layout: code start and end, data start and end, service address
 //! M a w..      words in memory, from address a on
 //! N n          how many bytes of the memory's 65,538 a call is lent
 //! A s..   a    stamps put behind the timetable's last; an empty timetable
 //! F s d n      n stamps put there: s, s + d, ..
+//! V s..   v    stamps put behind the trace's last; an empty trace
+//! U w..        words put behind the trace's last
+//! J s d n      n stamps put behind the trace's: s, s + d, ..
+//! Y w d n      n words put behind the trace's: w, w + d, ..
 //! R n w        register n
 //! P a          previous address
 //! C n          clock
@@ -34,7 +38,7 @@
 
 use std::io::Read;
 
-use model::{End, Layout, Machine, Outcome, SavedContext, GIE, SR};
+use model::{End, Layout, Machine, Outcome, SavedContext, Trace, GIE, SR};
 
 const BYTES: usize = 65_538;
 const MOST_STAMPS: usize = 4_100;
@@ -45,6 +49,8 @@ struct World {
     memory: Vec<u8>,
     lent: usize,
     stamps: Vec<u64>,
+    trace_stamps: Vec<u64>,
+    trace_words: Vec<u16>,
 }
 
 fn main() {
@@ -80,6 +86,8 @@ fn new_world() -> World {
         memory: vec![0; BYTES],
         lent: 65_536,
         stamps: Vec::new(),
+        trace_stamps: Vec::new(),
+        trace_words: Vec::new(),
     }
 }
 
@@ -107,6 +115,23 @@ fn word(number: u64) -> Option<u16> {
     u16::try_from(number).ok()
 }
 
+/// None where a list has no room for so many more.
+fn room<T>(list: &[T], more: u64) -> Option<()> {
+    (more <= (MOST_STAMPS - list.len()) as u64).then_some(())
+}
+
+fn put<T: Copy>(list: &mut Vec<T>, more: &[T]) -> Option<()> {
+    room(list, more.len() as u64)?;
+    list.extend_from_slice(more);
+    Some(())
+}
+
+fn put_row(list: &mut Vec<u64>, first: u64, step: u64, count: u64) -> Option<()> {
+    room(list, count)?;
+    list.extend((0..count).map(|i| first.wrapping_add(step.wrapping_mul(i))));
+    Some(())
+}
+
 /// None where the letter has no such fields.
 fn obey(world: &mut World, letter: char, fields: &[u64]) -> Option<()> {
     let machine = &mut world.machine;
@@ -127,19 +152,27 @@ fn obey(world: &mut World, letter: char, fields: &[u64]) -> Option<()> {
             }
         }
         ('N', &[n]) if n <= BYTES as u64 => world.lent = n as usize,
-        ('A', stamps) if !stamps.is_empty() => {
-            if world.stamps.len() + stamps.len() > MOST_STAMPS {
-                return None;
-            }
-            world.stamps.extend_from_slice(stamps);
-        }
+        ('A', stamps) if !stamps.is_empty() => put(&mut world.stamps, stamps)?,
         ('a', []) => world.stamps.clear(),
-        ('F', &[first, step, count]) => {
-            if count > (MOST_STAMPS - world.stamps.len()) as u64 {
-                return None;
+        ('F', &[first, step, count]) => put_row(&mut world.stamps, first, step, count)?,
+        ('V', stamps) if !stamps.is_empty() => put(&mut world.trace_stamps, stamps)?,
+        ('J', &[first, step, count]) => put_row(&mut world.trace_stamps, first, step, count)?,
+        ('U', numbers) if !numbers.is_empty() => {
+            let mut words = Vec::new();
+            for &number in numbers {
+                words.push(word(number)?);
             }
-            let row = (0..count).map(|i| first.wrapping_add(step.wrapping_mul(i)));
-            world.stamps.extend(row);
+            put(&mut world.trace_words, &words)?;
+        }
+        ('Y', &[first, step, count]) => {
+            let (first, step) = (word(first)?, word(step)?);
+            room(&world.trace_words, count)?;
+            let row = (0..count as u16).map(|i| first.wrapping_add(step.wrapping_mul(i)));
+            world.trace_words.extend(row);
+        }
+        ('v', []) => {
+            world.trace_stamps.clear();
+            world.trace_words.clear();
         }
         ('R', &[n, w]) if n < 16 => machine.registers[n as usize] = word(w)?,
         ('P', &[a]) => machine.previous = word(a)?,
@@ -186,7 +219,14 @@ fn start(world: &mut World) {
 
 fn step(world: &mut World) {
     let lent = &mut world.memory[..world.lent];
-    let answer = match world.machine.step(lent, &world.layout, &world.stamps) {
+    let trace = Trace {
+        stamps: &world.trace_stamps,
+        words: &world.trace_words,
+    };
+    let stepped = world
+        .machine
+        .step(lent, &world.layout, &world.stamps, trace);
+    let answer = match stepped {
         Ok(Outcome::Reset(cause)) => format!("X {cause}"),
         Ok(outcome) => outcome.letter().to_string(),
         Err(number) => format!("E {number}"),
@@ -200,10 +240,14 @@ fn step(world: &mut World) {
 
 fn run(world: &mut World, budget: u64) {
     let lent = &mut world.memory[..world.lent];
-    let answer = world
+    let trace = Trace {
+        stamps: &world.trace_stamps,
+        words: &world.trace_words,
+    };
+    let ran = world
         .machine
-        .run(lent, &world.layout, &world.stamps, budget);
-    let answer = match answer {
+        .run(lent, &world.layout, &world.stamps, trace, budget);
+    let answer = match ran {
         Ok((end, steps)) => format!("{} {steps}", End::letter(&end)),
         Err(number) => format!("E {number}"),
     };
