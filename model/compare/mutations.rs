@@ -26,31 +26,31 @@ macro_rules! mutation {
 
 pub const MUTATIONS: &[Mutation] = &[
     mutation!("slot_emptied_before_wait", "step.rs":
-        "self.pass(6 - age, stamps);\n        self.slot = None;" =>
-        "self.slot = None;\n        self.pass(6 - age, stamps);"),
-    mutation!("no_return_padding", "step.rs": "self.pass(held.age, stamps);" => ""),
+        "self.pass(6 - age, lists);\n        self.slot = None;" =>
+        "self.slot = None;\n        self.pass(6 - age, lists);"),
+    mutation!("no_return_padding", "step.rs": "self.pass(held.age, lists);" => ""),
     mutation!("chaining_looks_at_gie", "step.rs":
         "if self.slot.is_some() {" => "if self.interrupt_due() {"),
     mutation!("gie_writable_inside", "state.rs":
         "SR if inside => (word & !GIE) | (self.registers[SR] & GIE)," => ""),
     mutation!("age_not_capped", "step.rs":
-        "let age = (self.clock - stamp).min(6);\n        self.pass(6 - age, stamps);" =>
-        "let age = self.clock - stamp;\n        self.pass(6u64.saturating_sub(age), stamps);"),
+        "let age = (self.clock - stamp).min(6);\n        self.pass(6 - age, lists);" =>
+        "let age = self.clock - stamp;\n        self.pass(6u64.saturating_sub(age), lists);"),
     mutation!("zero_flag_at_bit_0",
         "arithmetic.rs": "C: u16 = 1 << 0" => "C: u16 = 1 << 1",
         "arithmetic.rs": "Z: u16 = 1 << 1" => "Z: u16 = 1 << 0"),
     mutation!("subtraction_turned_round", "arithmetic.rs":
         "destination.wrapping_sub(source)" => "source.wrapping_sub(destination)"),
     mutation!("alarm_set_before_cycles", "step.rs":
-        "self.pass(cycles(&instruction) as u64, stamps);\n        if let Instruction::Out(s) = instruction {\n            self.set_alarm(before[s as usize]);\n        }" =>
-        "if let Instruction::Out(s) = instruction {\n            self.set_alarm(before[s as usize]);\n        }\n        self.pass(cycles(&instruction) as u64, stamps);"),
+        "self.pass(cycles(&instruction) as u64, lists);\n        if let Instruction::Out(s) = instruction {\n            self.set_alarm(before[s as usize]);\n        }" =>
+        "if let Instruction::Out(s) = instruction {\n            self.set_alarm(before[s as usize]);\n        }\n        self.pass(cycles(&instruction) as u64, lists);"),
     mutation!("second_word_read_before_its_side", "step.rs":
         "if !same_side {" =>
         "if decode(first, read_word(memory, second_address)).is_none() {\n                return Err(5);\n            }\n            if !same_side {"),
     mutation!("plain_interrupt_onto_barred_stack", "step.rs":
         "if !layout.outside(pc_place) || !layout.outside(sr_place) {" => "if false {"),
     mutation!("reset_keeps_slot", "step.rs":
-        "self.pass(4, stamps);\n        self.slot = None;" => "self.pass(4, stamps);"),
+        "self.pass(4, lists);\n        self.slot = None;" => "self.pass(4, lists);"),
     mutation!("return_to_held_reads_stack", "step.rs":
         "if instruction == Instruction::Reti && self.held.is_none() {" =>
         "if instruction == Instruction::Reti {"),
@@ -66,4 +66,31 @@ pub const MUTATIONS: &[Mutation] = &[
         "if super::read_word(&memory, address) == 0 {\n                write_word(&mut memory, address, word);\n            }"),
     mutation!("sheet_of_4097_stamps_taken", "sheet.rs":
         "stamps.len() == MOST_STAMPS" => "stamps.len() > MOST_STAMPS"),
+    mutation!("record_at_the_clock_left_out", "time.rs":
+        "if stamp <= self.clock {" => "if stamp < self.clock {"),
+    mutation!("next_record_read", "time.rs":
+        "if stamp <= self.clock {\n                word = recorded;\n            }" =>
+        "word = recorded;\n            if stamp > self.clock {\n                break;\n            }"),
+    mutation!("clock_read_beside_a_trace", "time.rs":
+        "if lists.trace.stamps.is_empty() {" => "if true {"),
+    mutation!("words_by_the_timetables_place", "time.rs":
+        "lists.trace.stamps.iter().zip(lists.trace.words)" =>
+        "lists.timetable.iter().zip(lists.trace.words)"),
+    mutation!("records_ring_no_request", "time.rs":
+        "lists.trace.stamps.iter().copied().find(happens)" => "None::<u64>"),
+    mutation!("record_wins_over_earlier_stamp", "time.rs":
+        "earliest.map_or(s, |listed| listed.min(s))" => "s"),
+    mutation!("unequal_counts_taken", "time.rs":
+        "trace.stamps.len() == trace.words.len() && timetable_valid(trace.stamps)" =>
+        "timetable_valid(trace.stamps)"),
+    mutation!("trace_tested_after_frame",
+        "calls.rs": "if !trace_valid(trace) {\n            return Some(10);\n        }\n" => "",
+        "calls.rs": "if budget.is_some_and(" =>
+        "if !trace_valid(trace) {\n            return Some(10);\n        }\n        if budget.is_some_and("),
+    mutation!("records_rise_with_stamps", "sheet.rs":
+        "if !follows(&trace_stamps, stamp) {" =>
+        "if !follows(&trace_stamps, stamp) || !follows(&stamps, stamp) {"),
+    mutation!("record_stamp_tested_before_its_word", "sheet.rs":
+        "let word = hexadecimal(fields[2]).ok_or((7, number))?;\n            // 4,097" =>
+        "if !follows(&trace_stamps, stamp) {\n                return Err((10, number));\n            }\n            let word = hexadecimal(fields[2]).ok_or((7, number))?;\n            // 4,097"),
 ];

@@ -3,8 +3,9 @@
 
 use super::model::{
     decode, encode, read_sheet, Instruction, Layout, Machine, Operand, Operation, Right,
-    SavedContext,
+    SavedContext, Trace,
 };
+use crate::rides::Ride;
 use crate::subject::{
     Addresses, Lent, Ran, Read, Setup, SheetRead, State, Stepped, Subject, Written,
 };
@@ -65,9 +66,18 @@ fn start(memory: &[u8]) -> Result<State, u8> {
     Machine::start(memory).map(|machine| fields(&machine))
 }
 
+/// The model's trace of what is lent.
+fn trace(lent: Lent<'_>) -> Trace<'_> {
+    Trace {
+        stamps: lent.records.stamps,
+        words: lent.records.words,
+    }
+}
+
 fn step(state: &mut State, memory: &mut [u8], lent: Lent) -> Stepped {
     let mut machine = machine(state);
-    let outcome = machine.step(memory, &Layout::from(*lent.layout), lent.stamps)?;
+    let layout = Layout::from(*lent.layout);
+    let outcome = machine.step(memory, &layout, lent.stamps, trace(lent))?;
     *state = fields(&machine);
     let cause = match outcome {
         super::model::Outcome::Reset(cause) => cause,
@@ -78,7 +88,8 @@ fn step(state: &mut State, memory: &mut [u8], lent: Lent) -> Stepped {
 
 fn run(state: &mut State, memory: &mut [u8], lent: Lent, budget: u64) -> Ran {
     let mut machine = machine(state);
-    let (end, steps) = machine.run(memory, &Layout::from(*lent.layout), lent.stamps, budget)?;
+    let layout = Layout::from(*lent.layout);
+    let (end, steps) = machine.run(memory, &layout, lent.stamps, trace(lent), budget)?;
     *state = fields(&machine);
     Ok((end.letter() as u8, steps))
 }
@@ -164,6 +175,10 @@ fn sheet(sheet: &[u8]) -> SheetRead {
             ],
             memory: read.memory,
             stamps: read.stamps,
+            ride: Ride {
+                stamps: read.trace_stamps,
+                words: read.trace_words,
+            },
             budget: read.budget,
         }),
         Err((number, line)) => Err((number, line as u64)),

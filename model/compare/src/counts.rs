@@ -1,6 +1,7 @@
 //! How often each kind, cause, end, refusal and event occurred. A count of 0 is a failure.
 
 use crate::frames::FAULTS;
+use crate::rides::WAYS;
 
 /// What the comparison must have met beside kinds, causes, ends and refusals.
 #[derive(Clone, Copy)]
@@ -9,6 +10,22 @@ pub enum Event {
     PaddedAfterReturn,
     Nested,
     Alarm,
+    InClock,
+    InBefore,
+    InBetween,
+    InLast,
+    InAtRecord,
+    InDue,
+    RecordPlain,
+    RecordPadded,
+    RecordReturned,
+    RecordChained,
+    RecordMerged,
+    RecordAtStamp,
+    RecordLost,
+    FullTrace,
+    ThreeBeforeTen,
+    TenBeforeFour,
     Merged,
     PendingAtService,
     AgeCapped,
@@ -29,25 +46,49 @@ pub enum Event {
     SheetRefused,
     FullSheet,
     FullTimetable,
+    SheetWithRecords,
+    SheetRefusedByTen,
     Transcript,
+    TranscriptWithRecords,
     Pair,
+    PairWithRecords,
     PairWithVisit,
     PairWithPadded,
+    PairWithRecordPadded,
     EquallyMany,
     Sighting,
     CyclesLaw,
     TwelveLaw,
     TwelveAfterReturn,
+    TwelveRecord,
+    WordLaw,
+    OnceLaw,
     DurationLaw,
     RunLaw,
     Question,
 }
 
-const EVENTS: [&str; 36] = [
+const EVENTS: [&str; 60] = [
     "visit entered",
     "padded right after return padding",
     "plain interrupt while a visit is held",
     "alarm request",
+    "IN without a trace",
+    "IN before the first record",
+    "IN between two records",
+    "IN from the last record",
+    "IN with a record at the clock of its start",
+    "IN with a record due in its own cycles",
+    "record served plain",
+    "record served padded",
+    "record of the return padding served padded",
+    "record served chained",
+    "record merged in the padding",
+    "record at a timetable stamp",
+    "record lost in a reset",
+    "call with 4,096 records",
+    "timetable and trace wrong: 3",
+    "trace and frame wrong: 10",
     "request merged in the padding",
     "request pending as service starts",
     "age capped at 6",
@@ -68,15 +109,23 @@ const EVENTS: [&str; 36] = [
     "sheet refused",
     "sheet of 32,768 bytes taken",
     "sheet of 4,096 stamps taken",
+    "sheet with T lines taken",
+    "sheet refused by 10",
     "transcript of the bench program",
+    "transcript of a sheet with T lines",
     "secrecy: pairs",
+    "secrecy: pairs that share a trace",
     "secrecy: pairs with an ended visit",
     "secrecy: pairs with an ended visit and a padded interrupt",
+    "secrecy: pairs with an ended visit and a padded record",
     "secrecy: tests of equally many sightings",
     "secrecy: sightings compared",
     "law: 1 to 23 cycles",
     "law: twelve cycles, instruction inside",
     "law: twelve cycles, return padding",
+    "law: twelve cycles after a record",
+    "law: IN's word from a trace",
+    "law: records' stamps in the timetable change nothing",
     "law: duration of an ended visit",
     "law: run of n is n steps",
     "read, write, access",
@@ -102,8 +151,9 @@ pub struct Counts {
     kinds: [u64; 7],
     causes: [u64; 8],
     ends: [u64; 3],
-    refusals: [u64; 9],
+    refusals: [u64; 10],
     faults: [u64; FAULTS.len()],
+    ways: [u64; WAYS.len()],
     rows_inside: [u64; 16],
     rows_elsewhere: [u64; 16],
     events: [u64; EVENTS.len()],
@@ -120,8 +170,9 @@ impl Counts {
             kinds: [0; 7],
             causes: [0; 8],
             ends: [0; 3],
-            refusals: [0; 9],
+            refusals: [0; 10],
             faults: [0; FAULTS.len()],
+            ways: [0; WAYS.len()],
             rows_inside: [0; 16],
             rows_elsewhere: [0; 16],
             events: [0; EVENTS.len()],
@@ -144,13 +195,17 @@ impl Counts {
     }
 
     pub fn refusal(&mut self, number: u8) {
-        if (1..=9).contains(&number) {
+        if (1..=10).contains(&number) {
             self.refusals[number as usize - 1] += 1;
         }
     }
 
     pub fn fault(&mut self, fault: usize) {
         self.faults[fault] += 1;
+    }
+
+    pub fn way(&mut self, way: usize) {
+        self.ways[way] += 1;
     }
 
     /// A row that ran, inside or elsewhere.
@@ -189,8 +244,9 @@ impl Counts {
             group(true, letter("kind", KINDS), &self.kinds),
             group(true, number("cause", 8), &self.causes),
             group(true, letter("end", ENDS), &self.ends),
-            group(true, number("refusal", 9), &self.refusals),
+            group(true, number("refusal", 10), &self.refusals),
             group(false, named("refusal 4: ", &FAULTS), &self.faults),
+            group(false, named("refusal 10: ", &WAYS), &self.ways),
             // HLT, IN and OUT inside are resets.
             group(true, named("inside ", &ROWS[3..]), &self.rows_inside[3..]),
             group(true, named("elsewhere ", &ROWS), &self.rows_elsewhere),

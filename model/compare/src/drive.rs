@@ -3,6 +3,7 @@
 use crate::counts::{Counts, Event};
 use crate::frames;
 use crate::random::Random;
+use crate::rides::Ride;
 use crate::subject::{Addresses, Lent, State, Subject, CLOCK_LIMIT, MEMORY_BYTES};
 use crate::watch;
 use crate::world::{Act, Begin, Call, Twist, World};
@@ -29,7 +30,10 @@ struct Loan {
     size: usize,
     layout: Addresses,
     stamps: Option<Vec<u64>>,
+    ride: Option<Ride>,
+    /// In which way the frame is broken, and the trace.
     fault: Option<usize>,
+    way: Option<usize>,
 }
 
 /// Both answers to a call: what was told, or the refusal.
@@ -134,6 +138,17 @@ fn note(
             if let (4, Some(fault)) = (number, loan.fault) {
                 counts.fault(fault);
             }
+            if let (10, Some(way)) = (number, loan.way) {
+                counts.way(way);
+            }
+            counts.events(
+                Event::ThreeBeforeTen,
+                (number == 3 && loan.way.is_some()) as u64,
+            );
+            counts.events(
+                Event::TenBeforeFour,
+                (number == 10 && loan.fault.is_some()) as u64,
+            );
         }
         (Ok((kind, cause)), Act::Step) => {
             counts.steps += (loan.state.halted == 0) as u64;
@@ -160,15 +175,20 @@ impl Pair<'_> {
             .as_deref()
             .unwrap_or(&self.world.stamps)
             .to_vec();
+        let ride = loan.ride.as_ref().unwrap_or(&self.world.ride).clone();
         let lent = Lent {
             layout: &loan.layout,
             stamps: &stamps,
+            records: ride.lent(),
         };
         let before = watch::Before::new(&loan.state, &self.library_memory, lent);
         let answers = self.ask(call.act, &loan, lent);
         self.compare(&loan, &answers)?;
         if stamps != loan.stamps.as_deref().unwrap_or(&self.world.stamps) {
             return Err("the library altered the timetable".into());
+        }
+        if ride != *loan.ride.as_ref().unwrap_or(&self.world.ride) {
+            return Err("the library altered the trace".into());
         }
         counts.calls += 1;
         if answers.library.is_ok() {
@@ -184,7 +204,9 @@ impl Pair<'_> {
             size: MEMORY_BYTES,
             layout: self.world.scene.layout,
             stamps: None,
+            ride: None,
             fault: None,
+            way: None,
         };
         for twist in &call.twists {
             match twist {
@@ -192,6 +214,14 @@ impl Pair<'_> {
                 Twist::Size(size) => loan.size = *size,
                 Twist::Layout(layout) => loan.layout = *layout,
                 Twist::Stamps(stamps) => loan.stamps = Some(stamps.clone()),
+                Twist::Ride(ride) => {
+                    loan.ride = Some(ride.clone());
+                    loan.way = None;
+                }
+                Twist::BrokenRide(way, ride) => {
+                    loan.ride = Some(ride.clone());
+                    loan.way = Some(*way);
+                }
                 Twist::State(state) => loan.state = *state,
                 Twist::Fault(fault, seed) => {
                     let mut random = Random::new(*seed, 0);

@@ -1,9 +1,10 @@
 //! Document 01's laws, tried on runs from the start state.
 
 use crate::counts::{Counts, Event};
+use crate::course::{Course, Made};
 use crate::subject::{inside, Lent, Subject, PC};
-use crate::trace::{Made, Trace};
 use crate::visits::{cycles, visits};
+use crate::watch::IN;
 
 /// RETI's row.
 const RETI: usize = 4;
@@ -13,14 +14,16 @@ pub fn laws(
     machine: &Subject,
     memory: &[u8],
     lent: Lent,
-    trace: &Trace,
+    course: &Course,
     counts: &mut Counts,
 ) -> Result<(), String> {
-    for (number, step) in trace.steps.iter().enumerate() {
+    for (number, step) in course.steps.iter().enumerate() {
         step_laws(step, lent, counts).map_err(|text| format!("step {}: {text}", number + 1))?;
     }
-    durations(trace, lent, counts)?;
-    run_law(machine, memory, lent, trace, counts)
+    durations(course, lent, counts)?;
+    lands(machine, memory, lent, course)?;
+    counts.event(Event::RunLaw);
+    once(machine, memory, lent, course, counts)
 }
 
 fn step_laws(step: &Made, lent: Lent, counts: &mut Counts) -> Result<(), String> {
@@ -32,17 +35,51 @@ fn step_laws(step: &Made, lent: Lent, counts: &mut Counts) -> Result<(), String>
     if step.before.allowed() && step.before.slot != 0 {
         return Err("GIE is set and the slot filled at the start of a step".into());
     }
+    word(step, lent, counts)?;
     twelve_inside(step, lent, counts)?;
     twelve_returning(step, lent, counts)
 }
 
+/// IN gives the word of the last record whose stamp is at most the clock at its start, 0 before the
+/// first, and the clock's low 16 bits where there is no record.
+fn word(step: &Made, lent: Lent, counts: &mut Counts) -> Result<(), String> {
+    let ran = step.kind == b'R' || step.kind == b'I';
+    // The first four registers do not keep what is written to them, or not through an interrupt.
+    if step.row != Some(IN) || !ran || step.destination < 4 {
+        return Ok(());
+    }
+    let (clock, records) = (step.before.clock, lent.records);
+    let expected = match records.passed(clock) {
+        _ if records.stamps.is_empty() => clock as u16,
+        0 => 0,
+        passed => records.words[passed - 1],
+    };
+    let got = step.after.registers[step.destination];
+    if got != expected {
+        return Err(format!(
+            "IN at {clock} gave {got:04X}, and not {expected:04X}"
+        ));
+    }
+    counts.events(Event::WordLaw, !records.stamps.is_empty() as u64);
+    Ok(())
+}
+
 /// The first request in a stretch of the clock: above `from`, at most `to`.
 fn first_request(step: &Made, lent: Lent, from: u64, to: u64) -> Option<u64> {
-    let place = lent.stamps.partition_point(|&stamp| stamp <= from);
-    let stamp = lent.stamps.get(place).copied();
-    let alarm = Some(step.before.alarm).filter(|&alarm| from < alarm);
-    let requests = [stamp, alarm].into_iter().flatten();
-    requests.filter(|&request| request <= to).min()
+    let alarm = Some(step.before.alarm).filter(|&alarm| from < alarm && alarm <= to);
+    let requests = [lent.first_stamp(from, to), alarm];
+    requests.into_iter().flatten().min()
+}
+
+/// Counts a request that is served after twelve cycles.
+fn count_twelve(event: Event, request: Option<u64>, lent: Lent, counts: &mut Counts) {
+    let Some(stamp) = request else {
+        return;
+    };
+    counts.event(event);
+    if lent.records.stamps.binary_search(&stamp).is_ok() {
+        counts.event(Event::TwelveRecord);
+    }
 }
 
 /// A request in an instruction inside, GIE set: service exactly 12 cycles after its stamp.
@@ -57,7 +94,7 @@ fn twelve_inside(step: &Made, lent: Lent, counts: &mut Counts) -> Result<(), Str
         Some(stamp) => (b'P', stamp + 12),
         None => (b'R', from + cycles(step)),
     };
-    counts.events(Event::TwelveLaw, request.is_some() as u64);
+    count_twelve(Event::TwelveLaw, request, lent, counts);
     same_service(step, expected)
 }
 
@@ -74,7 +111,7 @@ fn twelve_returning(step: &Made, lent: Lent, counts: &mut Counts) -> Result<(), 
         Some(stamp) => (b'P', stamp + 12),
         None => (b'B', to),
     };
-    counts.events(Event::TwelveAfterReturn, request.is_some() as u64);
+    count_twelve(Event::TwelveAfterReturn, request, lent, counts);
     same_service(step, expected)
 }
 
@@ -96,8 +133,8 @@ fn same_service(step: &Made, expected: (u8, u64)) -> Result<(), String> {
 /// "An ended visit lasted its own instruction cycles, plus 17 per padded interrupt, 11 per
 /// chained, 6 per plain one meanwhile, plus service instructions other than RETIs that chain or
 /// resume."
-fn durations(trace: &Trace, lent: Lent, counts: &mut Counts) -> Result<(), String> {
-    for visit in visits(&trace.steps, lent.layout) {
+fn durations(course: &Course, lent: Lent, counts: &mut Counts) -> Result<(), String> {
+    for visit in visits(&course.steps, lent.layout) {
         let Some(end) = visit.end else {
             continue;
         };
@@ -111,25 +148,43 @@ fn durations(trace: &Trace, lent: Lent, counts: &mut Counts) -> Result<(), Strin
 }
 
 /// A run of as many steps lands where the steps land.
-fn run_law(
-    machine: &Subject,
-    memory: &[u8],
-    lent: Lent,
-    trace: &Trace,
-    counts: &mut Counts,
-) -> Result<(), String> {
+fn lands(machine: &Subject, memory: &[u8], lent: Lent, course: &Course) -> Result<(), String> {
     let mut memory = memory.to_vec();
     let mut state =
         (machine.start)(&memory).map_err(|number| format!("start is refused by {number}"))?;
-    let count = trace.steps.len() as u64;
+    let count = course.steps.len() as u64;
     let (_, steps) = (machine.run)(&mut state, &mut memory, lent, count)
         .map_err(|number| format!("run: {number}"))?;
-    let landed = trace.steps.last().map_or(state, |step| step.after);
-    if steps != count || state != landed || memory != trace.memory {
+    let landed = course.steps.last().map_or(state, |step| step.after);
+    if steps != count || state != landed || memory != course.memory {
         return Err(format!(
             "a run of {count} made {steps} and landed at {state:?}, the steps at {landed:?}"
         ));
     }
-    counts.event(Event::RunLaw);
+    Ok(())
+}
+
+/// "One that equals a timetable stamp counts once": with the stamps of all records put into the
+/// timetable the run lands where it did.
+fn once(
+    machine: &Subject,
+    memory: &[u8],
+    lent: Lent,
+    course: &Course,
+    counts: &mut Counts,
+) -> Result<(), String> {
+    let mut stamps = [lent.stamps, lent.records.stamps].concat();
+    stamps.sort_unstable();
+    stamps.dedup();
+    if lent.records.stamps.is_empty() || stamps.len() > 4096 {
+        return Ok(());
+    }
+    let listed = Lent {
+        stamps: &stamps,
+        ..lent
+    };
+    lands(machine, memory, listed, course)
+        .map_err(|text| format!("with the records' stamps in the timetable: {text}"))?;
+    counts.event(Event::OnceLaw);
     Ok(())
 }

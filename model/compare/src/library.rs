@@ -1,10 +1,11 @@
 //! The static library as a subject. It sees to it that a refused call alters nothing that was lent.
 
+use crate::rides::Ride;
 use crate::subject::{
     Addresses, Lent, Ran, Read, Setup, SheetRead, State, Stepped, Subject, Written,
 };
 use crate::subject::{MEMORY_BYTES, TOUCHED};
-use enclave::raw::{self, Numbers, Places};
+use enclave::raw::{self, Lists, Numbers, Places};
 
 /// What stands in an answer's place before a call.
 const BLANK: u8 = 0xA5;
@@ -69,10 +70,19 @@ fn start(memory: &[u8]) -> Result<State, u8> {
     }
 }
 
+/// The lists as the functions take them.
+fn lists(lent: Lent<'_>) -> Lists<'_> {
+    Lists {
+        stamps: lent.stamps,
+        trace_stamps: lent.records.stamps,
+        trace_words: lent.records.words,
+    }
+}
+
 fn step(state: &mut State, memory: &mut [u8], lent: Lent) -> Stepped {
     let mut machine = numbers(state);
     let (mut kind, mut cause) = (BLANK, BLANK);
-    let number = machine.step(memory, lent.layout, lent.stamps, &mut kind, &mut cause);
+    let number = machine.step(memory, lent.layout, lists(lent), &mut kind, &mut cause);
     *state = state_of(&machine);
     match number {
         0 => Ok((kind, cause)),
@@ -86,7 +96,7 @@ fn run(state: &mut State, memory: &mut [u8], lent: Lent, budget: u64) -> Ran {
     let number = machine.run(
         memory,
         lent.layout,
-        lent.stamps,
+        lists(lent),
         budget,
         &mut end,
         &mut steps,
@@ -132,25 +142,36 @@ fn write(fields: &[u16; 4]) -> Written {
 fn untouched(places: &Places) -> bool {
     places.memory.iter().all(|&byte| byte == BLANK)
         && places.stamps.iter().all(|&stamp| stamp == BLANK_NUMBER)
+        && places
+            .trace_stamps
+            .iter()
+            .all(|&stamp| stamp == BLANK_NUMBER)
+        && places.trace_words.iter().all(|&word| word == BLANK_WORD)
         && places.layout == [BLANK_WORD; 5]
         && places.count == BLANK_NUMBER
+        && places.records == BLANK_NUMBER
         && places.budget == BLANK_NUMBER
 }
 
-/// What was set up; the stamps beyond the count must be as they came.
-fn setup(places: &Places) -> SheetRead {
-    let count = places.count as usize;
-    if count > 4096
-        || places.stamps[count..]
-            .iter()
-            .any(|&stamp| stamp != BLANK_NUMBER)
-    {
-        return Err((TOUCHED, 0));
-    }
-    Ok(Setup {
+/// The front of a list. None where it has no such many places, or those beyond are not as they
+/// came.
+fn front<T: Copy + PartialEq>(list: &[T], count: u64, blank: T) -> Option<Vec<T>> {
+    let (front, beyond) = list.split_at_checked(count as usize)?;
+    let untouched = beyond.iter().all(|&item| item == blank);
+    untouched.then(|| front.to_vec())
+}
+
+/// What was set up.
+fn setup(places: &Places) -> Option<Setup> {
+    let (count, records) = (places.count, places.records);
+    Some(Setup {
         layout: places.layout,
         memory: places.memory.to_vec(),
-        stamps: places.stamps[..count].to_vec(),
+        stamps: front(&*places.stamps, count, BLANK_NUMBER)?,
+        ride: Ride {
+            stamps: front(&*places.trace_stamps, records, BLANK_NUMBER)?,
+            words: front(&*places.trace_words, records, BLANK_WORD)?,
+        },
         budget: places.budget,
     })
 }
@@ -159,13 +180,16 @@ fn read_sheet(sheet: &[u8]) -> SheetRead {
     let mut places = Places {
         memory: Box::new([BLANK; MEMORY_BYTES]),
         stamps: Box::new([BLANK_NUMBER; 4096]),
+        trace_stamps: Box::new([BLANK_NUMBER; 4096]),
+        trace_words: Box::new([BLANK_WORD; 4096]),
         layout: [BLANK_WORD; 5],
         count: BLANK_NUMBER,
+        records: BLANK_NUMBER,
         budget: BLANK_NUMBER,
     };
     let mut line = BLANK_NUMBER;
     match places.read(sheet, &mut line) {
-        0 => setup(&places),
+        0 => setup(&places).ok_or((TOUCHED, 0)),
         number if untouched(&places) => Err((number, line)),
         _ => Err((TOUCHED, line)),
     }

@@ -13,6 +13,7 @@
 
 mod calm;
 mod counts;
+mod course;
 mod drive;
 mod frames;
 mod instructions;
@@ -25,13 +26,13 @@ mod parts;
 mod questions;
 mod random;
 mod reading;
+mod rides;
 mod scene;
 mod secrecy;
 mod sheets;
 mod subject;
 mod subjects;
 mod timetables;
-mod trace;
 mod visits;
 mod watch;
 mod world;
@@ -80,8 +81,11 @@ fn compare(options: &Options, extent: Extent) -> Result<String, String> {
     }
     println!("\n{}", mutants::mutants(seed)?);
     println!("{}", counts.table());
-    let left_out = [Event::Transcript];
-    let missing = counts.missing(&left_out[options.bench.iter().len()..]);
+    let left_out: &[Event] = match options.bench {
+        Some(_) => &[],
+        None => &[Event::Transcript, Event::TranscriptWithRecords],
+    };
+    let missing = counts.missing(left_out);
     if !missing.is_empty() {
         return Err(format!("never occurred: {}", missing.join("; ")));
     }
@@ -114,6 +118,9 @@ fn one(options: &Options, index: u64) -> Result<String, String> {
     let first = &world.stamps[..world.stamps.len().min(20)];
     println!("{:04X?}\n{:?}", world.scene, world.begin);
     println!("{} stamps, first {first:?}", world.stamps.len());
+    let records = world.ride.stamps.iter().zip(&world.ride.words);
+    let first: Vec<_> = records.take(20).collect();
+    println!("{} records, first {first:04X?}", world.ride.stamps.len());
     for (number, call) in world.calls.iter().enumerate() {
         println!("call {number}: {call:?}");
     }

@@ -14,11 +14,17 @@ use crate::{library, questions, reading};
 const MOST: u64 = 6000;
 
 /// Mutants that break a law: the test of the laws must see each, as a machine by itself.
-const UNLAWFUL: [&str; 4] = [
+const UNLAWFUL: [&str; 10] = [
     "no_return_padding",
     "chaining_looks_at_gie",
     "gie_writable_inside",
     "alarm_loses_to_later_stamp",
+    "record_at_the_clock_left_out",
+    "next_record_read",
+    "clock_read_beside_a_trace",
+    "words_by_the_timetables_place",
+    "records_ring_no_request",
+    "record_wins_over_earlier_stamp",
 ];
 
 /// Mutants that tell a secret: the test of secrecy must see each, as a machine by itself.

@@ -20,17 +20,20 @@ pub fn read(sides: Sides, seed: u64, index: u64, counts: &mut Counts) -> Result<
             counts.event(Event::SheetTaken);
             counts.events(Event::FullSheet, (sheet.len() == sheets::MOST_BYTES) as u64);
             counts.events(Event::FullTimetable, (one.stamps.len() == 4096) as u64);
+            counts.events(Event::SheetWithRecords, !one.ride.stamps.is_empty() as u64);
         }
         (Err(one), Err(other)) if one == other => {
             counts.event(Event::SheetRefused);
             counts.refusal(one.0);
+            counts.events(Event::SheetRefusedByTen, (one.0 == 10) as u64);
         }
         _ => {
             let short = |read: &crate::subject::SheetRead| match read {
                 Ok(setup) => format!(
-                    "{:04X?} {} stamps, budget {}",
+                    "{:04X?} {} stamps, {} records, budget {}",
                     setup.layout,
                     setup.stamps.len(),
+                    setup.ride.stamps.len(),
                     setup.budget
                 ),
                 Err((number, line)) => format!("refusal {number} in line {line}"),
@@ -58,6 +61,8 @@ pub fn bench(program: &Path, seed: u64, index: u64, counts: &mut Counts) -> Resu
     let got = transcript(program, &sheet)?;
     counts.calls += 1;
     counts.event(Event::Transcript);
+    let records = model::read_sheet(&sheet).is_ok_and(|read| !read.trace_stamps.is_empty());
+    counts.events(Event::TranscriptWithRecords, records as u64);
     if got == expected {
         counts.steps += lines(&expected).saturating_sub(2);
         return Ok(());

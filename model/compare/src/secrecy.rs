@@ -3,12 +3,13 @@
 
 use crate::calm::{self, Manner};
 use crate::counts::{Counts, Event};
+use crate::course::{course, Bound, Course, Made};
 use crate::laws;
 use crate::random::Random;
+use crate::rides::{self, Ride};
 use crate::scene::{self, Scene};
 use crate::subject::{outside, Addresses, Lent, State, Subject, PC};
 use crate::timetables;
-use crate::trace::{trace, Bound, Made, Trace};
 use crate::visits::{visits, Visit};
 
 /// What outside code can see at one moment.
@@ -36,10 +37,12 @@ struct Twins {
     memories: [Vec<u8>; 2],
 }
 
-/// Two machines that differ in the module's bytes only, with their timetable.
+/// Two machines that differ in the module's bytes only, with the timetable and the trace that they
+/// share.
 pub struct Pair {
     twins: Twins,
     stamps: Vec<u64>,
+    ride: Ride,
     bounds: [Bound; 2],
 }
 
@@ -53,6 +56,7 @@ impl Pair {
             calm_twins(&mut random)
         };
         let stamps = timetables::taken(&mut random, 0);
+        let ride = rides::taken(&mut random, &twins.scene, 0, &stamps);
         // The lists may differ in length.
         let bounds = [(); 2].map(|_| Bound {
             clock: random.between(300, 1500),
@@ -61,6 +65,7 @@ impl Pair {
         Pair {
             twins,
             stamps,
+            ride,
             bounds,
         }
     }
@@ -69,14 +74,15 @@ impl Pair {
         Lent {
             layout: &self.twins.scene.layout,
             stamps: &self.stamps,
+            records: self.ride.lent(),
         }
     }
 
     /// The runs of both machines.
-    pub fn runs(&self, machine: &Subject) -> Result<[Trace; 2], String> {
+    pub fn runs(&self, machine: &Subject) -> Result<[Course; 2], String> {
         let run = |which: usize| {
             let memory = &self.twins.memories[which];
-            trace(machine, memory, self.lent(), self.bounds[which])
+            course(machine, memory, self.lent(), self.bounds[which])
         };
         Ok([run(0)?, run(1)?])
     }
@@ -85,7 +91,7 @@ impl Pair {
     pub fn laws(
         &self,
         machine: &Subject,
-        runs: &[Trace; 2],
+        runs: &[Course; 2],
         counts: &mut Counts,
     ) -> Result<(), String> {
         for (memory, run) in self.twins.memories.iter().zip(runs) {
@@ -95,8 +101,8 @@ impl Pair {
     }
 
     /// Demand 3, on both runs.
-    pub fn secrecy(&self, runs: &[Trace; 2], counts: &mut Counts) -> Result<(), String> {
-        compare(&runs[0], &runs[1], self.lent().layout, counts)
+    pub fn secrecy(&self, runs: &[Course; 2], counts: &mut Counts) -> Result<(), String> {
+        compare(&runs[0], &runs[1], self.lent(), counts)
     }
 }
 
@@ -167,7 +173,7 @@ fn sighting(step: &Made) -> Sighting {
 }
 
 /// The steps that begin outside at a clock value or below.
-fn sightings(run: &Trace, layout: &Addresses, limit: u64) -> Vec<Sighting> {
+fn sightings(run: &Course, layout: &Addresses, limit: u64) -> Vec<Sighting> {
     let seen =
         |step: &&Made| outside(layout, step.before.registers[PC]) && step.before.clock <= limit;
     run.steps.iter().filter(seen).map(sighting).collect()
@@ -196,7 +202,7 @@ fn premise_limit(first: &[Visit], second: &[Visit]) -> u64 {
 }
 
 /// Whether a run ends above a clock value or halted.
-fn is_over(run: &Trace, limit: u64) -> bool {
+fn is_over(run: &Course, limit: u64) -> bool {
     run.steps
         .last()
         .is_some_and(|step| step.after.clock > limit || step.after.halted == 1)
@@ -204,18 +210,14 @@ fn is_over(run: &Trace, limit: u64) -> bool {
 
 /// Where the premise holds, the sightings are equal, first to first; if both runs are over, they
 /// are equally many.
-fn compare(
-    first: &Trace,
-    second: &Trace,
-    layout: &Addresses,
-    counts: &mut Counts,
-) -> Result<(), String> {
+fn compare(first: &Course, second: &Course, lent: Lent, counts: &mut Counts) -> Result<(), String> {
+    let layout = lent.layout;
     let both = [first, second].map(|run| visits(&run.steps, layout));
     let limit = premise_limit(&both[0], &both[1]);
-    count_pair(first, &both, limit, counts);
+    count_pair(first, &both, limit, lent, counts);
     // Just below the end of the shorter run both are over; above it, the sightings agree as far as
     // both go.
-    let last = |run: &Trace| run.steps.last().map_or(0, |step| step.after.clock);
+    let last = |run: &Course| run.steps.last().map_or(0, |step| step.after.clock);
     let shorter = last(first).min(last(second)).saturating_sub(1);
     for limit in [limit, limit.min(shorter)] {
         let seen = [first, second].map(|run| sightings(run, layout, limit));
@@ -234,8 +236,8 @@ fn compare(
 
 /// If each run ends above the clock value or halted, the sightings are equally many.
 fn equally_many(
-    first: &Trace,
-    second: &Trace,
+    first: &Course,
+    second: &Course,
     lengths: [usize; 2],
     limit: u64,
     counts: &mut Counts,
@@ -251,8 +253,10 @@ fn equally_many(
 }
 
 /// Counts what the pair had up to a clock value.
-fn count_pair(first: &Trace, both: &[Vec<Visit>; 2], limit: u64, counts: &mut Counts) {
+fn count_pair(first: &Course, both: &[Vec<Visit>; 2], limit: u64, lent: Lent, counts: &mut Counts) {
     counts.event(Event::Pair);
+    let records = lent.records.stamps;
+    counts.events(Event::PairWithRecords, !records.is_empty() as u64);
     let ended = |visit: &Visit| visit.end.is_some_and(|end| end.clock <= limit);
     if !(both[0].iter().any(ended) && both[1].iter().any(ended)) {
         return;
@@ -261,5 +265,13 @@ fn count_pair(first: &Trace, both: &[Vec<Visit>; 2], limit: u64, counts: &mut Co
     let padded = |step: &Made| step.kind == b'P' && step.before.clock <= limit;
     if first.steps.iter().any(padded) {
         counts.event(Event::PairWithPadded);
+    }
+    // Served twelve cycles after a record.
+    let of_record = |step: &Made| {
+        let stamp = step.after.clock.checked_sub(12);
+        padded(step) && stamp.is_some_and(|stamp| records.binary_search(&stamp).is_ok())
+    };
+    if first.steps.iter().any(of_record) {
+        counts.event(Event::PairWithRecordPadded);
     }
 }

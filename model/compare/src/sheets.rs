@@ -3,6 +3,7 @@
 use crate::calm;
 use crate::layouts;
 use crate::random::Random;
+use crate::rides;
 use crate::scene::{self, Scene};
 use crate::subject::{word_at, Addresses, CLOCK_LIMIT};
 use crate::timetables;
@@ -50,7 +51,19 @@ fn good(random: &mut Random, most: u64) -> Lines {
     if !random.one_in(6) {
         stamps.truncate(60);
     }
-    let mut body: Vec<String> = stamps.iter().map(|stamp| format!("A\t{stamp}")).collect();
+    let mut ride = rides::taken(random, &scene, 0, &stamps);
+    if !random.one_in(6) {
+        ride.truncate(60);
+    }
+    let records = ride.stamps.iter().zip(&ride.words);
+    let mut records = records.map(|(stamp, word)| format!("T\t{stamp}\t{word:04X}"));
+    let mut body = Vec::new();
+    for stamp in stamps {
+        // A and T lines in any order, each list in its own.
+        body.extend(records.by_ref().take(random.below(3) as usize));
+        body.push(format!("A\t{stamp}"));
+    }
+    body.extend(records);
     let mut place = 0;
     for address in (0..0xFFFF).step_by(2) {
         let word = word_at(&memory, address);
@@ -88,7 +101,7 @@ fn layout_line(layout: &Addresses) -> String {
 }
 
 /// Lines that can't be read, or whose values are refused, wherever they stand.
-const BAD_LINES: [&str; 26] = [
+const BAD_LINES: [&str; 45] = [
     "",
     "M",
     "M\t4400",
@@ -111,6 +124,25 @@ const BAD_LINES: [&str; 26] = [
     "A\t10000000000000000000",
     "A\t9999999999999999999",
     "A\t4611686018427387905",
+    "A\t5\t1234",
+    "T",
+    "T\t5",
+    "T\t5\t",
+    "T\t\t1234",
+    "T\t5\t1234\t",
+    "T\t5\t123",
+    "T\t5\t12345",
+    "T\t5\t12a4",
+    "T\t05\t1234",
+    "T\t+5\t1234",
+    "T 5 1234",
+    "t\t5\t1234",
+    "T\t0\t1234",
+    "T\t0\tabcd",
+    "T\t4611686018427387905\t1234",
+    "T\t9999999999999999999\t1234",
+    "T\t9999999999999999999\t123",
+    "T\t10000000000000000000\t1234",
     "G\t01",
     "G\t1000001",
     "G\t5\t",
@@ -121,7 +153,7 @@ const BAD_LINES: [&str; 26] = [
 fn damage_lines(random: &mut Random, lines: &mut Lines) {
     let count = lines.0.len() as u64;
     let place = random.below(count) as usize;
-    match random.below(12) {
+    match random.below(15) {
         0 => lines.0[0] = layout_line(&layouts::broken(random)),
         1..=3 => lines.0.insert(place, random.pick(&BAD_LINES).into()),
         4 => lines.0[place] = random.pick(&BAD_LINES).into(),
@@ -130,11 +162,13 @@ fn damage_lines(random: &mut Random, lines: &mut Lines) {
         7 => drop(lines.0.pop()),
         8 => lines.0.push(
             random
-                .pick(&["M\t4400\t0000", "G\t1", "", "A\t7", "x"])
+                .pick(&["M\t4400\t0000", "G\t1", "", "A\t7", "T\t7\t0000", "x"])
                 .into(),
         ),
         9 => falling(random, lines),
         10 => many_stamps(random, lines),
+        11 | 12 => falling_records(random, lines),
+        13 => many_records(random, lines),
         _ => {
             lines.0.pop();
             let budget = random.pick(&[
@@ -154,6 +188,28 @@ fn falling(random: &mut Random, lines: &mut Lines) {
     let second = random.pick(&[stamp, stamp - 1, stamp + 1]);
     lines.0.insert(place, format!("A\t{second}"));
     lines.0.insert(place, format!("A\t{stamp}"));
+}
+
+/// The same of two records, which are above the records before them in some sheets.
+fn falling_records(random: &mut Random, lines: &mut Lines) {
+    let place = lines.0.len() - 1;
+    let stamp = random.pick(&[1, 2, 50, 1 << 60, CLOCK_LIMIT]);
+    let second = random.pick(&[stamp, stamp - 1, stamp + 1]);
+    for stamp in [second, stamp] {
+        lines
+            .0
+            .insert(place, format!("T\t{stamp}\t{:04X}", random.word()));
+    }
+}
+
+/// As many records as a sheet has room for; in some sheets the last is not above the one before it.
+fn many_records(random: &mut Random, lines: &mut Lines) {
+    let layout = lines.0.swap_remove(0);
+    let mut all = vec![layout];
+    all.extend((1..=2819).map(|stamp| format!("T\t{stamp}\t{:04X}", random.word())));
+    all.push(format!("T\t{}\t0000", random.pick(&[2820, 2820, 2819])));
+    all.push(format!("G\t{}", random.below(10)));
+    lines.0 = all;
 }
 
 /// As many stamps as are taken, or one more.

@@ -1,5 +1,7 @@
 //! What both sides are to the comparison: one table of the calls, over plain numbers.
 
+use crate::rides::Ride;
+
 /// "Memory is 65,536 bytes."
 pub const MEMORY_BYTES: usize = 65_536;
 /// "Clock above 2^62."
@@ -63,7 +65,22 @@ pub struct Setup {
     pub layout: Addresses,
     pub memory: Vec<u8>,
     pub stamps: Vec<u64>,
+    pub ride: Ride,
     pub budget: u64,
+}
+
+/// A ride trace as it is lent: a record is a stamp with the word at its place.
+#[derive(Clone, Copy, PartialEq, Eq)]
+pub struct Records<'a> {
+    pub stamps: &'a [u64],
+    pub words: &'a [u16],
+}
+
+impl Records<'_> {
+    /// How many records have a stamp of at most a clock value.
+    pub fn passed(self, clock: u64) -> usize {
+        self.stamps.partition_point(|&stamp| stamp <= clock)
+    }
 }
 
 /// What a step or a run is lent beside the state and the memory.
@@ -71,6 +88,23 @@ pub struct Setup {
 pub struct Lent<'a> {
     pub layout: &'a Addresses,
     pub stamps: &'a [u64],
+    pub records: Records<'a>,
+}
+
+impl Lent<'_> {
+    /// The first stamp of timetable and trace in a stretch of the clock: above `from`, at most
+    /// `to`.
+    pub fn first_stamp(self, from: u64, to: u64) -> Option<u64> {
+        let first = |stamps: &[u64]| {
+            let place = stamps.partition_point(|&stamp| stamp <= from);
+            stamps.get(place).copied()
+        };
+        let both = [first(self.stamps), first(self.records.stamps)];
+        both.into_iter()
+            .flatten()
+            .filter(|&stamp| stamp <= to)
+            .min()
+    }
 }
 
 /// Kind and cause of a step.

@@ -1,7 +1,7 @@
 //! The visits of a run to the enclave module, in document 01's words.
 
+use crate::course::Made;
 use crate::subject::{inside, outside, Addresses, PC};
-use crate::trace::Made;
 use crate::watch::CYCLES;
 
 /// The ways to end.

@@ -8,15 +8,16 @@ use crate::world::World;
 /// The cycles of each row of the table of instruction words.
 pub const CYCLES: [u64; 16] = [1, 2, 2, 2, 5, 1, 2, 1, 2, 4, 2, 1, 1, 1, 1, 2];
 
-/// The row at an address, if an instruction stands there.
-pub fn row_at(memory: &[u8], address: u16) -> Option<usize> {
+/// IN's row.
+pub const IN: usize = 1;
+
+/// Row, source, destination and constant at an address, if an instruction stands there.
+pub fn fields_at(memory: &[u8], address: u16) -> Option<[u16; 4]> {
     let (first, second) = (
         word_at(memory, address),
         word_at(memory, address.wrapping_add(2)),
     );
-    (LIBRARY.read)(first, second)
-        .ok()
-        .map(|(fields, _)| fields[0] as usize)
+    (LIBRARY.read)(first, second).ok().map(|(fields, _)| fields)
 }
 
 /// What was before a step.
@@ -31,7 +32,7 @@ impl Before<'_> {
         Before {
             state: *state,
             lent,
-            row: row_at(memory, state.registers[PC]),
+            row: fields_at(memory, state.registers[PC]).map(|fields| fields[0] as usize),
         }
     }
 
@@ -59,7 +60,73 @@ impl Before<'_> {
             _ => {}
         }
         self.others(after, kind, counts);
+        self.records(after, kind, counts);
         Ok(())
+    }
+
+    /// What the step had to do with the trace.
+    fn records(&self, after: &State, kind: u8, counts: &mut Counts) {
+        let records = self.lent.records;
+        counts.events(Event::FullTrace, (records.stamps.len() == 4096) as u64);
+        if self.row == Some(IN) && kind != b'X' {
+            self.word(counts);
+        }
+        if self.state.slot == 0 {
+            self.served(after, kind, counts);
+        }
+        let (from, to) = (
+            records.passed(self.state.clock),
+            records.passed(after.clock),
+        );
+        let listed = |stamp: &&u64| self.lent.stamps.binary_search(stamp).is_ok();
+        if records.stamps[from..to].iter().any(|stamp| listed(&stamp)) {
+            counts.event(Event::RecordAtStamp);
+        }
+        if kind == b'X' && records.passed(after.clock - 4) < to {
+            counts.event(Event::RecordLost);
+        }
+    }
+
+    /// Where IN's word came from.
+    fn word(&self, counts: &mut Counts) {
+        let (stamps, clock) = (self.lent.records.stamps, self.state.clock);
+        let passed = self.lent.records.passed(clock);
+        counts.event(match passed {
+            _ if stamps.is_empty() => Event::InClock,
+            0 => Event::InBefore,
+            all if all == stamps.len() => Event::InLast,
+            _ => Event::InBetween,
+        });
+        if stamps[..passed].last() == Some(&clock) {
+            counts.event(Event::InAtRecord);
+        }
+        if stamps
+            .get(passed)
+            .is_some_and(|&stamp| stamp <= clock + CYCLES[IN])
+        {
+            counts.event(Event::InDue);
+        }
+    }
+
+    /// Whether the request that is served is a record and nothing else: the slot was empty, and
+    /// takes the earliest.
+    fn served(&self, after: &State, kind: u8, counts: &mut Counts) {
+        let first = self.lent.first_stamp(self.state.clock, after.clock);
+        let Some(stamp) = first.filter(|&stamp| stamp != self.state.alarm) else {
+            return;
+        };
+        let alarm = (self.state.clock + 1..stamp).contains(&self.state.alarm);
+        let listed = self.lent.stamps.binary_search(&stamp).is_ok();
+        if alarm || listed {
+            return;
+        }
+        match (kind, self.state.held) {
+            (b'I', _) => counts.event(Event::RecordPlain),
+            (b'P', 0) => counts.event(Event::RecordPadded),
+            (b'P', _) => counts.event(Event::RecordReturned),
+            (b'C', _) => counts.event(Event::RecordChained),
+            _ => {}
+        }
     }
 
     fn padded(&self, after: &State, counts: &mut Counts) {
@@ -75,6 +142,10 @@ impl Before<'_> {
             .any(|&stamp| from < stamp && stamp <= to)
         {
             counts.event(Event::Merged);
+        }
+        let records = self.lent.records;
+        if records.passed(from) < records.passed(to) {
+            counts.event(Event::RecordMerged);
         }
         if after.slot != 0 {
             counts.event(Event::PendingAtService);

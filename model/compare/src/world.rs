@@ -1,9 +1,11 @@
-//! A world: a scene with its memory, timetable and state, and the list of calls that is made on it.
+//! A world: a scene with its memory, timetable, ride trace and state, and the list of calls that is
+//! made on it.
 
 use crate::calm;
 use crate::frames;
 use crate::layouts;
 use crate::random::Random;
+use crate::rides::{self, Ride};
 use crate::scene::{self, Scene};
 use crate::subject::{put_word, State, MEMORY_BYTES};
 use crate::timetables;
@@ -32,6 +34,10 @@ pub enum Twist {
     Layout([u16; 5]),
     /// Another timetable.
     Stamps(Vec<u64>),
+    /// Another ride trace.
+    Ride(Ride),
+    /// A ride trace that is broken in one way.
+    BrokenRide(usize, Ride),
     /// The frame is broken in one way, by the random numbers of a seed.
     Fault(usize, u64),
     /// A state that only a caller could invent.
@@ -41,7 +47,7 @@ pub enum Twist {
 #[derive(Clone, Debug)]
 pub struct Call {
     pub act: Act,
-    /// More than one thing may be wrong: the first in number order is told.
+    /// More than one thing may be wrong: the first in the order of the tests is told.
     pub twists: Vec<Twist>,
 }
 
@@ -49,6 +55,7 @@ pub struct World {
     pub scene: Scene,
     pub memory: Vec<u8>,
     pub stamps: Vec<u64>,
+    pub ride: Ride,
     pub begin: Begin,
     pub calls: Vec<Call>,
 }
@@ -75,11 +82,13 @@ impl World {
             Begin::Invented(state) => state.clock,
         };
         let stamps = timetables::taken(&mut random, clock);
+        let ride = rides::taken(&mut random, &scene, clock, &stamps);
         let calls = calls(&mut random, &scene, clock);
         World {
             scene,
             memory,
             stamps,
+            ride,
             begin,
             calls,
         }
@@ -158,7 +167,7 @@ fn twists(random: &mut Random, scene: &Scene, clock: u64) -> Vec<Twist> {
 }
 
 fn twist(random: &mut Random, scene: &Scene, clock: u64) -> Twist {
-    match random.below(12) {
+    match random.below(15) {
         0 => Twist::Size(random.pick(&[
             0,
             1,
@@ -174,6 +183,11 @@ fn twist(random: &mut Random, scene: &Scene, clock: u64) -> Twist {
         4 | 5 => Twist::State(frames::invented(random, scene)),
         6 if random.one_in(4) => Twist::Layout(layouts::taken(random)),
         6 => Twist::None,
+        7 | 8 => {
+            let way = random.below(rides::WAYS.len() as u64) as usize;
+            Twist::BrokenRide(way, rides::broken(random, scene, clock, way))
+        }
+        9 => Twist::Ride(rides::taken(random, scene, clock, &[])),
         _ => Twist::Fault(
             random.below(frames::FAULTS.len() as u64) as usize,
             random.next(),

@@ -1,7 +1,7 @@
 //! A run from the start state, step by step, with what each step was like before and after.
 
 use crate::subject::{outside, Addresses, Lent, State, Subject, PC};
-use crate::watch::row_at;
+use crate::watch::fields_at;
 
 /// One step that was made.
 pub struct Made {
@@ -9,20 +9,21 @@ pub struct Made {
     pub after: State,
     pub kind: u8,
     pub cause: u8,
-    /// The row of the instruction at pc.
+    /// The row of the instruction at pc, and its destination.
     pub row: Option<usize>,
+    pub destination: usize,
     /// Sums over the outside bytes: equal bytes have equal sums.
     pub outside_before: u64,
     pub outside_after: u64,
 }
 
 /// A run and the memory that it left.
-pub struct Trace {
+pub struct Course {
     pub steps: Vec<Made>,
     pub memory: Vec<u8>,
 }
 
-/// Where a trace stops if the machine does not halt.
+/// Where a course stops if the machine does not halt.
 #[derive(Clone, Copy)]
 pub struct Bound {
     pub clock: u64,
@@ -30,7 +31,12 @@ pub struct Bound {
 }
 
 /// Steps from the start state until the machine is halted or a bound is met.
-pub fn trace(machine: &Subject, memory: &[u8], lent: Lent, bound: Bound) -> Result<Trace, String> {
+pub fn course(
+    machine: &Subject,
+    memory: &[u8],
+    lent: Lent,
+    bound: Bound,
+) -> Result<Course, String> {
     let mut memory = memory.to_vec();
     let mut shadow = memory.clone();
     let mut state =
@@ -39,7 +45,7 @@ pub fn trace(machine: &Subject, memory: &[u8], lent: Lent, bound: Bound) -> Resu
     let mut steps = Vec::new();
     while state.halted == 0 && state.clock <= bound.clock && steps.len() < bound.steps {
         let (before, outside_before) = (state, sum);
-        let row = row_at(&memory, before.registers[PC]);
+        let fields = fields_at(&memory, before.registers[PC]);
         let stepped = (machine.step)(&mut state, &mut memory, lent);
         let (kind, cause) =
             stepped.map_err(|number| format!("a step from the start is refused by {number}"))?;
@@ -49,12 +55,13 @@ pub fn trace(machine: &Subject, memory: &[u8], lent: Lent, bound: Bound) -> Resu
             after: state,
             kind,
             cause,
-            row,
+            row: fields.map(|fields| fields[0] as usize),
+            destination: fields.map_or(0, |fields| fields[2] as usize),
             outside_before,
             outside_after: sum,
         });
     }
-    Ok(Trace { steps, memory })
+    Ok(Course { steps, memory })
 }
 
 /// The share of one byte in the sum.
