@@ -41,6 +41,7 @@ static void print_step(const struct enclave_machine *machine, uint64_t step, uin
 static enum enclave_refusal step_setup(void)
 {
     struct enclave_machine machine;
+    struct enclave_trace trace = enclave_setup_trace(&setup);
     enum enclave_end end;
     uint64_t steps = 0;
     uint8_t kind, cause;
@@ -50,7 +51,7 @@ static enum enclave_refusal step_setup(void)
     puts("step\tkind\tclock\tpc\tsr");
     while (!has_ended(&machine, steps, &end)) {
         refusal = enclave_machine_step(&machine, setup.memory, sizeof setup.memory, &setup.layout, setup.stamps,
-                                       setup.count, &kind, &cause);
+                                       setup.count, &trace, &kind, &cause);
         if (refusal != ENCLAVE_TAKEN)
             return refusal;
         steps++;

@@ -19,12 +19,13 @@ static struct enclave_setup setup;
 static enum enclave_refusal print_transcript(void)
 {
     struct enclave_machine machine;
+    struct enclave_trace trace = enclave_setup_trace(&setup);
     struct enclave_transcript transcript = {.budget = setup.budget};
     enum enclave_refusal refusal = enclave_machine_start(&machine, setup.memory, sizeof setup.memory);
     while (refusal == ENCLAVE_TAKEN && transcript.stage != ENCLAVE_COMPLETE) {
         uint64_t written = 0;
         refusal = enclave_machine_transcribe(&machine, setup.memory, sizeof setup.memory, &setup.layout, setup.stamps,
-                                             setup.count, &transcript, page, sizeof page, &written);
+                                             setup.count, &trace, &transcript, page, sizeof page, &written);
         fwrite(page, 1, (size_t)written, stdout);
     }
     return refusal;

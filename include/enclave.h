@@ -18,9 +18,9 @@
 #include <stdint.h>
 
 /* The version of this header and of the Rust crate beside it; CHANGELOG.md says what each brought. */
-#define ENCLAVE_VERSION "0.2.0"
+#define ENCLAVE_VERSION "0.3.0"
 #define ENCLAVE_VERSION_MAJOR 0
-#define ENCLAVE_VERSION_MINOR 2
+#define ENCLAVE_VERSION_MINOR 3
 #define ENCLAVE_VERSION_PATCH 0
 
 #ifdef __cplusplus
@@ -28,8 +28,8 @@ extern "C" {
 #endif
 
 /*
- * Memory has this many bytes; a sheet has at most so many bytes, a timetable so many stamps, a run so many steps, a line of a transcript
- * so many bytes.
+ * Memory has this many bytes; a sheet has at most so many bytes, a timetable so many stamps and a trace so many records, a run so many
+ * steps, a line of a transcript so many bytes.
  */
 enum {
     ENCLAVE_MEMORY_SIZE = 65536,
@@ -43,14 +43,16 @@ enum {
 #define ENCLAVE_LAST_CLOCK UINT64_C(0x4000000000000000)
 
 /*
- * Why a call is refused. A call tries these in the order of their numbers, as far as they concern what it takes. The sheet reader tries
- * ENCLAVE_SHEET first and then goes line by line, on a line ENCLAVE_LINE first.
+ * Why a call is refused. A call tries these in the order in which they stand here, as far as they concern what it takes: that is the order
+ * of their numbers, but for ENCLAVE_TRACE, which comes right after ENCLAVE_TIMETABLE. The sheet reader tries ENCLAVE_SHEET first and then
+ * goes line by line, on a line ENCLAVE_LINE first.
  */
 enum enclave_refusal {
     ENCLAVE_TAKEN = 0,     /* the call is not refused */
     ENCLAVE_MAP = 1,       /* memory isn't 65,536 bytes */
     ENCLAVE_FENCE = 2,     /* a rule of the layout is broken */
     ENCLAVE_TIMETABLE = 3, /* the stamps are too many, out of range or not rising */
+    ENCLAVE_TRACE = 10,    /* the trace's stamps are too many, out of range or not rising, or its words are not equally many */
     ENCLAVE_FRAME = 4,     /* the state is one that no machine of this layout can be in */
     ENCLAVE_DISTANCE = 5,  /* the budget is above 1,000,000 */
     ENCLAVE_CLOCK = 6,     /* the clock is above 2^62 */
@@ -69,8 +71,8 @@ enum enclave_rule {
 };
 
 /*
- * What a step did: its letter on a bench transcript. A machine that came from its start state by steps and runs with one layout and
- * timetable keeps the twelve cycles: a request that fills the slot during an instruction inside (not a reset) or in the padding after a
+ * What a step did: its letter on a bench transcript. A machine that came from its start state by steps and runs with one layout, timetable
+ * and trace keeps the twelve cycles: a request that fills the slot during an instruction inside (not a reset) or in the padding after a
  * return, with GIE set, reaches service exactly twelve cycles after its stamp. A state that a caller made up may have an older request
  * pending, whose service may start later.
  */
@@ -121,7 +123,7 @@ enum enclave_right {
 /* The rows of the table of instruction words. */
 enum enclave_row {
     ENCLAVE_HLT = 0,
-    ENCLAVE_IN = 1,        /* destination */
+    ENCLAVE_IN = 1,        /* destination; its word is the trace's, or the clock's (struct enclave_trace) */
     ENCLAVE_OUT = 2,       /* source */
     ENCLAVE_JZ = 3,        /* source */
     ENCLAVE_RETI = 4,
@@ -178,6 +180,19 @@ struct enclave_layout {
     };
 };
 
+/*
+ * A ride trace: records, each a stamp and its word, in two lists that are equally long. The stamps are at most 4,096, strictly rising, each
+ * 1 to 2^62. Where it has records, IN gives the word of the last one whose stamp is at most the clock at the instruction's start, and 0
+ * before the first; where it has none, IN gives the clock's low 16 bits. Each record's stamp is a request too, as a stamp of the timetable
+ * is; one that stands in both counts once. Lists that are no trace are refused as ENCLAVE_TRACE.
+ */
+struct enclave_trace {
+    const uint64_t *stamps;
+    size_t stamp_count;
+    const uint16_t *words;
+    size_t word_count;
+};
+
 /* One instruction. Registers are 0 to 15. Fields that its row does not name are not looked at in writing and 0 in reading. */
 struct enclave_instruction {
     union {
@@ -192,8 +207,11 @@ struct enclave_instruction {
 struct enclave_setup {
     struct enclave_layout layout;
     uint64_t budget;
-    uint64_t count;                  /* of stamps */
-    uint64_t stamps[ENCLAVE_STAMPS]; /* the first count are the sheet's, the others stay as they were */
+    uint64_t count;                        /* of stamps */
+    uint64_t records;                      /* of the trace, which enclave_setup_trace gives */
+    uint64_t stamps[ENCLAVE_STAMPS];       /* the first count are the sheet's, the others stay as they were */
+    uint64_t trace_stamps[ENCLAVE_STAMPS]; /* the first records are the sheet's, the others stay as they were; so also the words */
+    uint16_t trace_words[ENCLAVE_STAMPS];
     uint8_t memory[ENCLAVE_MEMORY_SIZE];
 };
 
@@ -209,20 +227,33 @@ uint8_t enclave_start(uint16_t registers[16], uint16_t saved[16], uint16_t contr
                       const uint8_t *memory, size_t size);
 uint8_t enclave_step(uint16_t registers[16], uint16_t saved[16], uint16_t control[5], uint64_t time[3],
                      uint8_t *memory, size_t size, const uint16_t layout[5], const uint64_t *stamps, size_t count,
+                     const uint64_t *trace_stamps, size_t trace_count, const uint16_t *trace_words, size_t word_count,
                      uint8_t *kind, uint8_t *cause);
 uint8_t enclave_run(uint16_t registers[16], uint16_t saved[16], uint16_t control[5], uint64_t time[3],
                     uint8_t *memory, size_t size, const uint16_t layout[5], const uint64_t *stamps, size_t count,
+                    const uint64_t *trace_stamps, size_t trace_count, const uint16_t *trace_words, size_t word_count,
                     uint64_t budget, uint8_t *end, uint64_t *steps);
 uint8_t enclave_transcribe(uint16_t registers[16], uint16_t saved[16], uint16_t control[5], uint64_t time[3],
                            uint8_t *memory, size_t memory_size, const uint16_t layout[5], const uint64_t *stamps,
-                           size_t count, uint64_t budget, uint8_t *stage, uint64_t *steps, uint8_t *out,
-                           size_t out_size, uint64_t *written);
+                           size_t count, const uint64_t *trace_stamps, size_t trace_count,
+                           const uint16_t *trace_words, size_t word_count, uint64_t budget, uint8_t *stage,
+                           uint64_t *steps, uint8_t *out, size_t out_size, uint64_t *written);
 uint8_t enclave_fault(const uint16_t layout[5]);
 uint8_t enclave_access(const uint16_t layout[5], uint16_t from, uint16_t address, uint8_t *rights);
 uint8_t enclave_read(uint16_t first, uint16_t second, uint16_t fields[4], uint8_t *length);
 uint8_t enclave_write(const uint16_t fields[4], uint16_t *first, uint16_t *second, uint8_t *length);
 uint8_t enclave_read_sheet(const uint8_t *sheet, size_t size, uint8_t memory[65536], uint64_t stamps[4096],
-                           uint16_t layout[5], uint64_t *count, uint64_t *budget, uint64_t *line);
+                           uint64_t trace_stamps[4096], uint16_t trace_words[4096], uint16_t layout[5],
+                           uint64_t *count, uint64_t *records, uint64_t *budget, uint64_t *line);
+
+/* The trace without records: IN gives the clock's low 16 bits, and no request comes of it. */
+static inline struct enclave_trace enclave_no_trace(void)
+{
+    static const uint64_t stamps[1] = {0};
+    static const uint16_t words[1] = {0};
+    struct enclave_trace trace = {stamps, 0, words, 0};
+    return trace;
+}
 
 /* The start state of a memory. Refusal 1. */
 static inline enum enclave_refusal enclave_machine_start(struct enclave_machine *m, const uint8_t *memory, size_t size)
@@ -230,43 +261,53 @@ static inline enum enclave_refusal enclave_machine_start(struct enclave_machine 
     return (enum enclave_refusal)enclave_start(m->registers, m->saved, m->control, m->time, memory, size);
 }
 
-/* One step: its kind (enum enclave_kind) and, where that is ENCLAVE_RESET, its cause, else ENCLAVE_NO_RESET. Refusals 1, 2, 3, 4, 6. */
+/*
+ * One step: its kind (enum enclave_kind) and, where that is ENCLAVE_RESET, its cause, else ENCLAVE_NO_RESET. Refusals 1, 2, 3, 10, 4, 6, in
+ * this order.
+ */
 static inline enum enclave_refusal enclave_machine_step(struct enclave_machine *m, uint8_t *memory, size_t size,
                                                         const struct enclave_layout *layout, const uint64_t *stamps,
-                                                        size_t count, uint8_t *kind, uint8_t *cause)
+                                                        size_t count, const struct enclave_trace *trace,
+                                                        uint8_t *kind, uint8_t *cause)
 {
     return (enum enclave_refusal)enclave_step(m->registers, m->saved, m->control, m->time, memory, size,
-                                              layout->addresses, stamps, count, kind, cause);
+                                              layout->addresses, stamps, count, trace->stamps, trace->stamp_count,
+                                              trace->words, trace->word_count, kind, cause);
 }
 
 /*
  * Steps until the machine is halted, its clock is above 2^62 or the budget is spent: which of these (enum enclave_end), and the number
- * of steps made. Refusals 1 to 6.
+ * of steps made. Refusals 1, 2, 3, 10, 4, 5, 6, in this order.
  */
 static inline enum enclave_refusal enclave_machine_run(struct enclave_machine *m, uint8_t *memory, size_t size,
                                                        const struct enclave_layout *layout, const uint64_t *stamps,
-                                                       size_t count, uint64_t budget, uint8_t *end, uint64_t *steps)
+                                                       size_t count, const struct enclave_trace *trace,
+                                                       uint64_t budget, uint8_t *end, uint64_t *steps)
 {
     return (enum enclave_refusal)enclave_run(m->registers, m->saved, m->control, m->time, memory, size,
-                                             layout->addresses, stamps, count, budget, end, steps);
+                                             layout->addresses, stamps, count, trace->stamps, trace->stamp_count,
+                                             trace->words, trace->word_count, budget, end, steps);
 }
 
 /*
  * The next part of a run's transcript: as many whole lines as there is room for, the machine going on with each line of a step. A line is
  * begun only where ENCLAVE_LINE_SIZE bytes are free, so out is lent at least as many; where it is shorter, no line is written and no step
  * made. written is the number of bytes; those behind them stay as they were. The transcript is whole once its stage is ENCLAVE_COMPLETE,
- * and a further call writes no line. Parts of any size give the same bytes. Refusals 1 to 5; a clock above 2^62 is not refused, but ends
- * the transcript by ENCLAVE_END_CLOCK. At ENCLAVE_COMPLETE nothing is tested or refused; a stage above it comes back as ENCLAVE_COMPLETE.
+ * and a further call writes no line. Parts of any size give the same bytes. Refusals 1, 2, 3, 10, 4, 5, in this order; a clock above
+ * 2^62 is not refused, but ends the transcript by ENCLAVE_END_CLOCK. At ENCLAVE_COMPLETE nothing is tested or refused; a stage above it
+ * comes back as ENCLAVE_COMPLETE.
  */
 static inline enum enclave_refusal enclave_machine_transcribe(struct enclave_machine *m, uint8_t *memory, size_t size,
                                                               const struct enclave_layout *layout,
                                                               const uint64_t *stamps, size_t count,
+                                                              const struct enclave_trace *trace,
                                                               struct enclave_transcript *t, uint8_t *out,
                                                               size_t out_size, uint64_t *written)
 {
     return (enum enclave_refusal)enclave_transcribe(m->registers, m->saved, m->control, m->time, memory, size,
-                                                    layout->addresses, stamps, count, t->budget, &t->stage, &t->steps,
-                                                    out, out_size, written);
+                                                    layout->addresses, stamps, count, trace->stamps,
+                                                    trace->stamp_count, trace->words, trace->word_count, t->budget,
+                                                    &t->stage, &t->steps, out, out_size, written);
 }
 
 /* The first rule that a layout breaks, in the order of their numbers, or ENCLAVE_UNBROKEN, where it is accepted. Nothing is refused. */
@@ -296,12 +337,19 @@ static inline enum enclave_refusal enclave_instruction_write(const struct enclav
     return (enum enclave_refusal)enclave_write(i->fields, first, second, length);
 }
 
-/* What a sheet sets up. Refusals 2, 3, 5, 7, 8; line is then the refused line (from 1; 0 for refusal 8) and the only thing written. */
+/* What a sheet sets up. Refusals 2, 3, 5, 7, 8, 10; line is then the refused line (from 1; 0 for refusal 8) and the only thing written. */
 static inline enum enclave_refusal enclave_setup_read(struct enclave_setup *s, const uint8_t *sheet, size_t size,
                                                       uint64_t *line)
 {
-    return (enum enclave_refusal)enclave_read_sheet(sheet, size, s->memory, s->stamps, s->layout.addresses, &s->count,
-                                                    &s->budget, line);
+    return (enum enclave_refusal)enclave_read_sheet(sheet, size, s->memory, s->stamps, s->trace_stamps, s->trace_words,
+                                                    s->layout.addresses, &s->count, &s->records, &s->budget, line);
+}
+
+/* The trace of a setup that was read: its T lines, without records where there is none. It points into the setup. */
+static inline struct enclave_trace enclave_setup_trace(const struct enclave_setup *s)
+{
+    struct enclave_trace trace = {s->trace_stamps, (size_t)s->records, s->trace_words, (size_t)s->records};
+    return trace;
 }
 
 #ifdef __cplusplus
