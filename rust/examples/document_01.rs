@@ -34,7 +34,7 @@ fn write_steps(mut setup: Setup, out: &mut impl Write) -> io::Result<()> {
             break end;
         }
         let kind = machine
-            .step(&mut setup.memory, &setup.timetable)
+            .step(&mut setup.memory, &setup.timetable, &setup.trace)
             .map_err(io::Error::other)?;
         steps += 1;
         let (clock, pc, status) = (machine.clock(), machine.pc(), machine.status());

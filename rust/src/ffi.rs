@@ -27,11 +27,12 @@ extern "C" {
     ) -> u8;
 
     /// One step: the letter of its kind, and the number of its cause, 0 where it is no reset.
-    /// Refusals 1, 2, 3, 4, 6.
+    /// Refusals 1, 2, 3, 10, 4, 6, in this order.
     ///
     /// # Safety
     ///
-    /// As of the module; `memory` points to `size` bytes, `stamps` to `count` stamps.
+    /// As of the module; `memory` points to `size` bytes, `stamps` to `count` stamps, `trace_stamps` to
+    /// `trace_count` stamps, `trace_words` to `word_count` words.
     pub fn enclave_step(
         registers: *mut [u16; 16],
         saved: *mut [u16; 16],
@@ -42,15 +43,21 @@ extern "C" {
         layout: *const [u16; 5],
         stamps: *const u64,
         count: usize,
+        trace_stamps: *const u64,
+        trace_count: usize,
+        trace_words: *const u16,
+        word_count: usize,
         kind: *mut u8,
         cause: *mut u8,
     ) -> u8;
 
-    /// Many steps: the letter of why they stopped and how many they were. Refusals 1 to 6.
+    /// Many steps: the letter of why they stopped and how many they were. Refusals 1, 2, 3, 10, 4, 5, 6,
+    /// in this order.
     ///
     /// # Safety
     ///
-    /// As of the module; `memory` points to `size` bytes, `stamps` to `count` stamps.
+    /// As of the module; `memory` points to `size` bytes, `stamps` to `count` stamps, `trace_stamps` to
+    /// `trace_count` stamps, `trace_words` to `word_count` words.
     pub fn enclave_run(
         registers: *mut [u16; 16],
         saved: *mut [u16; 16],
@@ -61,18 +68,24 @@ extern "C" {
         layout: *const [u16; 5],
         stamps: *const u64,
         count: usize,
+        trace_stamps: *const u64,
+        trace_count: usize,
+        trace_words: *const u16,
+        word_count: usize,
         budget: u64,
         end: *mut u8,
         steps: *mut u64,
     ) -> u8;
 
     /// The next lines of a run's transcript, as many as there is room for, and how many bytes they
-    /// are. `stage` is 0 where the header comes next, 1 where steps do, else nothing. Refusals 1 to 5.
+    /// are. `stage` is 0 where the header comes next, 1 where steps do, else nothing. Refusals 1, 2, 3,
+    /// 10, 4, 5, in this order.
     ///
     /// # Safety
     ///
-    /// As of the module; `memory` points to `memory_size` bytes, `stamps` to `count` stamps, `out` to
-    /// `out_size` bytes.
+    /// As of the module; `memory` points to `memory_size` bytes, `stamps` to `count` stamps,
+    /// `trace_stamps` to `trace_count` stamps, `trace_words` to `word_count` words, `out` to `out_size`
+    /// bytes.
     pub fn enclave_transcribe(
         registers: *mut [u16; 16],
         saved: *mut [u16; 16],
@@ -83,6 +96,10 @@ extern "C" {
         layout: *const [u16; 5],
         stamps: *const u64,
         count: usize,
+        trace_stamps: *const u64,
+        trace_count: usize,
+        trace_words: *const u16,
+        word_count: usize,
         budget: u64,
         stage: *mut u8,
         steps: *mut u64,
@@ -125,7 +142,7 @@ extern "C" {
         length: *mut u8,
     ) -> u8;
 
-    /// What a sheet sets up. Refusals 2, 3, 5, 7, 8, which write `line` alone.
+    /// What a sheet sets up. Refusals 2, 3, 5, 7, 8, 10, which write `line` alone.
     ///
     /// # Safety
     ///
@@ -135,8 +152,11 @@ extern "C" {
         size: usize,
         memory: *mut [u8; 65536],
         stamps: *mut [u64; 4096],
+        trace_stamps: *mut [u64; 4096],
+        trace_words: *mut [u16; 4096],
         layout: *mut [u16; 5],
         count: *mut u64,
+        records: *mut u64,
         budget: *mut u64,
         line: *mut u64,
     ) -> u8;

@@ -10,6 +10,7 @@
 //! | map | memory is an array of 65,536 bytes |
 //! | fence | a [`Layout`] is made only by [`Layout::new`], which asks the library |
 //! | timetable | a [`Timetable`] is made only by [`Timetable::new`] |
+//! | trace | a [`Trace`] is made only by [`Trace::new`] |
 //! | frame | a [`Machine`] keeps its layout; [`Machine::from_fields`] asks the library |
 //! | distance | a [`Budget`] is made only by [`Budget::new`] |
 //!
@@ -18,7 +19,7 @@
 //!
 //! There is no global state: a call works on what it is lent and on nothing else, so the types are
 //! `Send` and `Sync` by construction, and threads may run different machines at the same time. The
-//! library allocates nothing. In this crate only [`Memory`], [`Timetable`], [`Setup`] and
+//! library allocates nothing. In this crate only [`Memory`], [`Timetable`], [`Trace`], [`Setup`] and
 //! [`raw::Places`] own memory from the heap, and [`Machine::from_fields`] takes a memory from there
 //! while it asks; start, step, run and a transcript allocate nothing.
 //!
@@ -27,7 +28,7 @@
 //! whole path, while this crate is built.
 //!
 //! ```
-//! use enclave::{Budget, End, Layout, Machine, Memory, Timetable};
+//! use enclave::{Budget, End, Layout, Machine, Memory, Timetable, Trace};
 //!
 //! let layout = Layout::new(0x8000..0x8008, 0x8100..0x8104, 0x4500)?;
 //! let timetable = Timetable::new(&[6])?;
@@ -35,7 +36,7 @@
 //! memory.set_word(0xFFFE, 0x4400);
 //! memory.set_word(0x4400, 0x0001); // HLT
 //! let mut machine = Machine::start(layout, &memory);
-//! let stop = machine.run(&mut memory, &timetable, Budget::new(20)?)?;
+//! let stop = machine.run(&mut memory, &timetable, &Trace::empty(), Budget::new(20)?)?;
 //! assert_eq!((stop.end, stop.steps, machine.clock()), (End::Halted, 1, 1));
 //! # Ok::<(), enclave::Refusal>(())
 //! ```
@@ -63,6 +64,7 @@ mod sheet;
 mod state;
 mod status;
 mod timetable;
+mod trace;
 mod transcript;
 
 pub use access::Rights;
@@ -79,6 +81,7 @@ pub use rule::Rule;
 pub use sheet::{Setup, SheetRefusal};
 pub use status::Status;
 pub use timetable::{Timetable, LAST_CLOCK, MOST_STAMPS};
+pub use trace::Trace;
 pub use transcript::Transcript;
 
 /// The version of this crate and of `include/enclave.h`, which are one; `CHANGELOG.md` says what each

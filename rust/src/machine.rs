@@ -3,10 +3,10 @@
 use std::num::NonZeroU64;
 
 use crate::memory::zeros;
-use crate::raw::{Numbers, Progress};
+use crate::raw::{Lists, Numbers, Progress};
 use crate::{
     Budget, End, Kind, Layout, MachineFields, Refusal, Register, SavedContext, Status, Timetable,
-    MEMORY_SIZE,
+    Trace, MEMORY_SIZE,
 };
 
 /// A machine beside its memory. It keeps the layout that it was started with, so its state is
@@ -40,7 +40,7 @@ impl Machine {
         Machine { layout, state }
     }
 
-    /// One step, and what it did.
+    /// One step, and what it did. A trace without records is [`Trace::empty`].
     ///
     /// # Errors
     ///
@@ -49,12 +49,13 @@ impl Machine {
         &mut self,
         memory: &mut [u8; MEMORY_SIZE],
         timetable: &Timetable<'_>,
+        trace: &Trace<'_>,
     ) -> Result<Kind, Refusal> {
-        let (addresses, stamps) = (&self.layout.addresses, timetable.stamps());
+        let (addresses, lists) = (&self.layout.addresses, lent(timetable, trace));
         let (mut kind, mut cause) = (0, 0);
         let answer = self
             .state
-            .step(memory, addresses, stamps, &mut kind, &mut cause);
+            .step(memory, addresses, lists, &mut kind, &mut cause);
         Refusal::taken(answer)?;
         Ok(Kind::told(kind, cause))
     }
@@ -69,14 +70,15 @@ impl Machine {
         &mut self,
         memory: &mut [u8; MEMORY_SIZE],
         timetable: &Timetable<'_>,
+        trace: &Trace<'_>,
         budget: Budget,
     ) -> Result<Stop, Refusal> {
-        let (addresses, stamps) = (&self.layout.addresses, timetable.stamps());
+        let (addresses, lists) = (&self.layout.addresses, lent(timetable, trace));
         let (mut end, mut steps) = (0, 0);
         let budget = budget.steps();
         let answer = self
             .state
-            .run(memory, addresses, stamps, budget, &mut end, &mut steps);
+            .run(memory, addresses, lists, budget, &mut end, &mut steps);
         Refusal::taken(answer)?;
         let end = End::told(end);
         Ok(Stop { end, steps })
@@ -87,13 +89,14 @@ impl Machine {
         &mut self,
         memory: &mut [u8; MEMORY_SIZE],
         timetable: &Timetable<'_>,
+        trace: &Trace<'_>,
         progress: &mut Progress,
         out: &mut [u8],
         written: &mut u64,
     ) -> u8 {
-        let (addresses, stamps) = (&self.layout.addresses, timetable.stamps());
+        let (addresses, lists) = (&self.layout.addresses, lent(timetable, trace));
         self.state
-            .transcribe(memory, addresses, stamps, progress, out, written)
+            .transcribe(memory, addresses, lists, progress, out, written)
     }
 
     /// The machine of these fields. The library decides, on a memory that is taken from the heap for
@@ -108,7 +111,8 @@ impl Machine {
         let mut machine = Machine { layout, state };
         // A run of budget 0 tests the frame, then the clock, and makes no step on this memory.
         let mut memory = zeros();
-        match machine.run(&mut memory, &Timetable::empty(), Budget::NONE) {
+        let (timetable, trace) = (Timetable::empty(), Trace::empty());
+        match machine.run(&mut memory, &timetable, &trace, Budget::NONE) {
             Ok(_) | Err(Refusal::Clock) => Ok(machine),
             Err(refusal) => Err(refusal),
         }
@@ -190,5 +194,14 @@ impl Machine {
     #[must_use]
     pub fn held(&self) -> Option<SavedContext> {
         self.state.held()
+    }
+}
+
+// The lists that the library is lent.
+fn lent<'a>(timetable: &'a Timetable<'_>, trace: &'a Trace<'_>) -> Lists<'a> {
+    Lists {
+        stamps: timetable.stamps(),
+        trace_stamps: trace.stamps(),
+        trace_words: trace.words(),
     }
 }

@@ -10,6 +10,18 @@ use crate::{MEMORY_SIZE, MOST_STAMPS};
 /// The five addresses of a layout: code start and end, data start and end, service address.
 pub type Addresses = [u16; 5];
 
+/// The lists that a call is lent: the stamps of the timetable, and the stamps and the words of the
+/// trace. [`Lists::default`] has nothing in any.
+#[derive(Clone, Copy, Debug, Default, PartialEq, Eq, Hash)]
+pub struct Lists<'a> {
+    /// The timetable.
+    pub stamps: &'a [u64],
+    /// The stamps of the trace's records.
+    pub trace_stamps: &'a [u64],
+    /// Their words; where they are not as many, the call is refused.
+    pub trace_words: &'a [u16],
+}
+
 /// A machine in numbers.
 #[derive(Clone, Debug, Default, PartialEq, Eq, Hash)]
 pub struct Numbers {
@@ -57,7 +69,7 @@ impl Numbers {
         &mut self,
         memory: &mut [u8],
         layout: &Addresses,
-        stamps: &[u64],
+        lists: Lists<'_>,
         kind: &mut u8,
         cause: &mut u8,
     ) -> u8 {
@@ -71,8 +83,12 @@ impl Numbers {
                 memory.as_mut_ptr(),
                 memory.len(),
                 layout,
-                stamps.as_ptr(),
-                stamps.len(),
+                lists.stamps.as_ptr(),
+                lists.stamps.len(),
+                lists.trace_stamps.as_ptr(),
+                lists.trace_stamps.len(),
+                lists.trace_words.as_ptr(),
+                lists.trace_words.len(),
                 kind,
                 cause,
             )
@@ -84,7 +100,7 @@ impl Numbers {
         &mut self,
         memory: &mut [u8],
         layout: &Addresses,
-        stamps: &[u64],
+        lists: Lists<'_>,
         budget: u64,
         end: &mut u8,
         steps: &mut u64,
@@ -99,8 +115,12 @@ impl Numbers {
                 memory.as_mut_ptr(),
                 memory.len(),
                 layout,
-                stamps.as_ptr(),
-                stamps.len(),
+                lists.stamps.as_ptr(),
+                lists.stamps.len(),
+                lists.trace_stamps.as_ptr(),
+                lists.trace_stamps.len(),
+                lists.trace_words.as_ptr(),
+                lists.trace_words.len(),
                 budget,
                 end,
                 steps,
@@ -114,7 +134,7 @@ impl Numbers {
         &mut self,
         memory: &mut [u8],
         layout: &Addresses,
-        stamps: &[u64],
+        lists: Lists<'_>,
         progress: &mut Progress,
         out: &mut [u8],
         written: &mut u64,
@@ -129,8 +149,12 @@ impl Numbers {
                 memory.as_mut_ptr(),
                 memory.len(),
                 layout,
-                stamps.as_ptr(),
-                stamps.len(),
+                lists.stamps.as_ptr(),
+                lists.stamps.len(),
+                lists.trace_stamps.as_ptr(),
+                lists.trace_stamps.len(),
+                lists.trace_words.as_ptr(),
+                lists.trace_words.len(),
                 progress.budget,
                 &raw mut progress.stage,
                 &raw mut progress.steps,
@@ -176,10 +200,16 @@ pub struct Places {
     pub memory: Box<[u8; MEMORY_SIZE]>,
     /// The timetable, at the front.
     pub stamps: Box<[u64; MOST_STAMPS]>,
+    /// The stamps of the trace's records, at the front.
+    pub trace_stamps: Box<[u64; MOST_STAMPS]>,
+    /// Their words, at the front.
+    pub trace_words: Box<[u16; MOST_STAMPS]>,
     /// The layout.
     pub layout: Addresses,
-    /// How many stamps there are.
+    /// How many stamps the timetable has.
     pub count: u64,
+    /// How many records the trace has.
+    pub records: u64,
     /// The budget.
     pub budget: u64,
 }
@@ -191,8 +221,11 @@ impl Places {
         Places {
             memory: zeros(),
             stamps: zeros(),
+            trace_stamps: zeros(),
+            trace_words: zeros(),
             layout: [0; 5],
             count: 0,
+            records: 0,
             budget: 0,
         }
     }
@@ -206,8 +239,11 @@ impl Places {
                 sheet.len(),
                 &raw mut *self.memory,
                 &raw mut *self.stamps,
+                &raw mut *self.trace_stamps,
+                &raw mut *self.trace_words,
                 &raw mut self.layout,
                 &raw mut self.count,
+                &raw mut self.records,
                 &raw mut self.budget,
                 line,
             )

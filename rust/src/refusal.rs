@@ -26,15 +26,20 @@ pub enum Refusal {
     Sheet = 8,
     /// 9: no such instruction.
     Word = 9,
+    /// 10: the trace's stamps are too many, out of range or not rising, or its words are not equally
+    /// many.
+    Trace = 10,
 }
 
 impl Refusal {
-    /// All nine, in the order in which a call tries those that concern it. Only the reader of a sheet
-    /// tries *sheet* first, and *line* before the others of a line.
-    pub const ALL: [Refusal; 9] = [
+    /// All ten, in the order in which a call tries those that concern it: that of their numbers, but
+    /// for *trace*, which comes right after *timetable*. Only the reader of a sheet tries *sheet* first,
+    /// and *line* before the others of a line.
+    pub const ALL: [Refusal; 10] = [
         Refusal::Map,
         Refusal::Fence,
         Refusal::Timetable,
+        Refusal::Trace,
         Refusal::Frame,
         Refusal::Distance,
         Refusal::Clock,
@@ -43,7 +48,7 @@ impl Refusal {
         Refusal::Word,
     ];
 
-    /// Its number, 1 to 9.
+    /// Its number, 1 to 10.
     #[must_use]
     pub const fn number(self) -> u8 {
         self as u8
@@ -55,7 +60,7 @@ impl Refusal {
         Refusal::ALL.into_iter().find(|r| r.number() == number)
     }
 
-    /// Its word in document 01.
+    /// Its word in the specification.
     #[must_use]
     pub const fn word(self) -> &'static str {
         match self {
@@ -68,6 +73,7 @@ impl Refusal {
             Refusal::Line => "line",
             Refusal::Sheet => "sheet",
             Refusal::Word => "word",
+            Refusal::Trace => "trace",
         }
     }
 
@@ -101,6 +107,10 @@ impl Refusal {
                 "there is no such instruction: take its words or its registers from the table of \
                  instruction words"
             }
+            Refusal::Trace => {
+                "the trace's stamps are more than 4,096, not rising, or not 1 to 2^62, or its words are \
+                 not equally many: sort the records, drop doubles, and give each stamp one word"
+            }
         }
     }
 
@@ -108,7 +118,7 @@ impl Refusal {
     pub(crate) fn taken(answer: u8) -> Result<(), Refusal> {
         match answer {
             0 => Ok(()),
-            number => Err(Refusal::from_number(number).expect("an answer is 0 to 9")),
+            number => Err(Refusal::from_number(number).expect("an answer is 0 to 10")),
         }
     }
 }

@@ -4,7 +4,7 @@ use std::error::Error;
 use std::fmt;
 
 use crate::raw::Places;
-use crate::{Budget, Layout, Machine, Memory, Refusal, Timetable};
+use crate::{Budget, Layout, Machine, Memory, Refusal, Timetable, Trace};
 
 /// What a sheet sets up.
 #[derive(Clone, Debug, PartialEq, Eq)]
@@ -15,6 +15,8 @@ pub struct Setup {
     pub memory: Memory,
     /// The timetable of its A lines.
     pub timetable: Timetable<'static>,
+    /// The trace of its T lines.
+    pub trace: Trace<'static>,
     /// The budget of its G line.
     pub budget: Budget,
 }
@@ -22,7 +24,7 @@ pub struct Setup {
 /// Why a sheet is refused, and for which line. As text it begins with that line: `line 13: ...`.
 #[derive(Clone, Copy, Debug, PartialEq, Eq, Hash)]
 pub struct SheetRefusal {
-    /// The refusal: fence, timetable, distance, line or sheet.
+    /// The refusal: fence, timetable, trace, distance, line or sheet.
     pub refusal: Refusal,
     /// Its line, from 1; 0 for the whole sheet.
     pub line: u64,
@@ -33,8 +35,8 @@ impl Setup {
     ///
     /// # Errors
     ///
-    /// The refusal of its first bad line: *line*, or *fence*, *timetable* or *distance* where the line
-    /// can be read. *sheet*, with line 0, comes before all.
+    /// The refusal of its first bad line: *line*, or *fence*, *timetable*, *trace* or *distance* where
+    /// the line can be read. *sheet*, with line 0, comes before all.
     ///
     /// # Panics
     ///
@@ -44,13 +46,17 @@ impl Setup {
         Refusal::taken(places.read(sheet, &mut line))
             .map_err(|refusal| SheetRefusal { refusal, line })?;
         let count = usize::try_from(places.count).expect("at most 4,096 stamps");
+        let records = usize::try_from(places.records).expect("at most 4,096 records");
         let stamps = places.stamps[..count].to_vec();
+        let trace_stamps = places.trace_stamps[..records].to_vec();
+        let trace_words = places.trace_words[..records].to_vec();
         Ok(Setup {
             layout: Layout {
                 addresses: places.layout,
             },
             memory: places.memory.into(),
             timetable: Timetable::new(stamps).expect("the library took the stamps"),
+            trace: Trace::new(trace_stamps, trace_words).expect("the library took the records"),
             budget: Budget::new(places.budget).expect("the library took the budget"),
         })
     }

@@ -7,7 +7,7 @@ use crate::Refusal;
 /// The last clock value of which a machine steps, and the last stamp: 2^62.
 pub const LAST_CLOCK: u64 = 1 << 62;
 
-/// A timetable has at most this many stamps.
+/// A timetable has at most this many stamps, and a trace this many records.
 pub const MOST_STAMPS: usize = 4096;
 
 /// The stamps at which interrupt requests happen: at most 4,096, strictly rising, each 1 to 2^62.
@@ -25,17 +25,14 @@ impl<'a> Timetable<'a> {
     /// Refusal *timetable* where they are more than 4,096, not strictly rising, or not 1 to 2^62.
     pub fn new(stamps: impl Into<Cow<'a, [u64]>>) -> Result<Timetable<'a>, Refusal> {
         let stamps = stamps.into();
-        let few = stamps.len() <= MOST_STAMPS;
-        let in_range = stamps.iter().all(|s| (1..=LAST_CLOCK).contains(s));
-        let rising = stamps.windows(2).all(|pair| pair[0] < pair[1]);
-        if few && in_range && rising {
+        if are_stamps(&stamps) {
             Ok(Timetable { stamps })
         } else {
             Err(Refusal::Timetable)
         }
     }
 
-    /// The timetable with no request.
+    /// The timetable without stamps.
     #[must_use]
     pub const fn empty() -> Timetable<'a> {
         Timetable {
@@ -48,4 +45,12 @@ impl<'a> Timetable<'a> {
     pub fn stamps(&self) -> &[u64] {
         &self.stamps
     }
+}
+
+// They are at most 4,096, strictly rising, each 1 to 2^62.
+pub(crate) fn are_stamps(stamps: &[u64]) -> bool {
+    let few = stamps.len() <= MOST_STAMPS;
+    let in_range = stamps.iter().all(|s| (1..=LAST_CLOCK).contains(s));
+    let rising = stamps.windows(2).all(|pair| pair[0] < pair[1]);
+    few && in_range && rising
 }

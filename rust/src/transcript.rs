@@ -4,7 +4,7 @@ use std::fmt;
 use std::io;
 
 use crate::raw::Progress;
-use crate::{Budget, Machine, Refusal, Timetable, MEMORY_SIZE};
+use crate::{Budget, Machine, Refusal, Timetable, Trace, MEMORY_SIZE};
 
 // The stage at which nothing is left to write.
 const COMPLETE: u8 = 2;
@@ -20,6 +20,7 @@ pub struct Transcript<'a> {
     machine: &'a mut Machine,
     memory: &'a mut [u8; MEMORY_SIZE],
     timetable: &'a Timetable<'a>,
+    trace: &'a Trace<'a>,
     progress: Progress,
 }
 
@@ -29,6 +30,7 @@ impl Machine {
         &'a mut self,
         memory: &'a mut [u8; MEMORY_SIZE],
         timetable: &'a Timetable<'a>,
+        trace: &'a Trace<'a>,
         budget: Budget,
     ) -> Transcript<'a> {
         let progress = Progress {
@@ -39,6 +41,7 @@ impl Machine {
             machine: self,
             memory,
             timetable,
+            trace,
             progress,
         }
     }
@@ -63,11 +66,12 @@ impl Transcript<'_> {
         let answer = self.machine.transcribe(
             self.memory,
             self.timetable,
+            self.trace,
             &mut self.progress,
             out,
             &mut written,
         );
-        Refusal::taken(answer).expect("the library took machine, layout, timetable and budget");
+        Refusal::taken(answer).expect("the library took machine, layout, lists and budget");
         usize::try_from(written).expect("at most what was lent")
     }
 
@@ -104,6 +108,7 @@ impl fmt::Debug for Transcript<'_> {
         f.debug_struct("Transcript")
             .field("machine", &self.machine)
             .field("timetable", &self.timetable)
+            .field("trace", &self.trace)
             .field("progress", &self.progress)
             .finish_non_exhaustive()
     }

@@ -1,11 +1,11 @@
-//! Start, step, run and a transcript allocate nothing, with an array for memory and a borrowed timetable; to restore
-//! a machine a memory is taken from the heap, once.
+//! Start, step, run and a transcript allocate nothing, with an array for memory, a borrowed timetable and a borrowed
+//! trace; to restore a machine a memory is taken from the heap, once.
 
 use std::alloc::{GlobalAlloc, Layout as Block, System};
 use std::cell::Cell;
 use std::hint::black_box;
 
-use enclave::{Budget, Layout, Machine, Memory, Timetable, MEMORY_SIZE};
+use enclave::{Budget, Layout, Machine, Memory, Timetable, Trace, MEMORY_SIZE};
 
 thread_local! {
     static ALLOCATIONS: Cell<usize> = const { Cell::new(0) };
@@ -52,11 +52,15 @@ fn work() {
     }
     let stamps = [6, 20, 40];
     let timetable = Timetable::new(&stamps).unwrap();
+    let words = [0x0001, 0x0002, 0x0003];
+    let trace = Trace::new(&stamps, &words).unwrap();
     let mut machine = Machine::start(layout(), &memory);
-    machine.step(&mut memory, &timetable).unwrap();
+    machine.step(&mut memory, &timetable, &trace).unwrap();
     let budget = Budget::new(1000).unwrap();
-    machine.run(&mut memory, &timetable, budget).unwrap();
-    let mut lines = machine.transcript(&mut memory, &timetable, budget);
+    machine
+        .run(&mut memory, &timetable, &trace, budget)
+        .unwrap();
+    let mut lines = machine.transcript(&mut memory, &timetable, &trace, budget);
     assert!(lines.fill(&mut [0; 4096]) > 0);
 }
 

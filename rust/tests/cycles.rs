@@ -2,7 +2,7 @@
 
 mod support;
 
-use enclave::{Instruction, Kind, Machine, Memory, Timetable, Words};
+use enclave::{Instruction, Kind, Machine, Memory, Timetable, Trace, Words};
 use support::{fields_at, paper_layout};
 
 // The clock after one step of an instruction at 4400, outside, with every register but r2 and r3 at 4600.
@@ -20,7 +20,8 @@ fn clock_after(words: Words) -> u64 {
             memory.set_word(0x4402, second);
         }
     }
-    let kind = machine.step(&mut memory, &Timetable::empty()).unwrap();
+    let (timetable, trace) = (Timetable::empty(), Trace::empty());
+    let kind = machine.step(&mut memory, &timetable, &trace).unwrap();
     assert!(matches!(kind, Kind::Ran | Kind::Halted), "{words:?}");
     machine.clock()
 }

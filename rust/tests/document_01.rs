@@ -31,7 +31,12 @@ fn transcript_is_the_papers() {
 fn run_ends_where_the_steps_do() {
     let mut setup = paper_setup();
     let mut machine = setup.start();
-    let stop = machine.run(&mut setup.memory, &setup.timetable, setup.budget);
+    let stop = machine.run(
+        &mut setup.memory,
+        &setup.timetable,
+        &setup.trace,
+        setup.budget,
+    );
     let (end, steps) = (End::Halted, 7);
     assert_eq!(stop, Ok(Stop { end, steps }));
     assert_eq!((machine.clock(), machine.pc()), (27, 0x4602));
@@ -43,10 +48,15 @@ fn halted_machine_answers_halted_unchanged() {
     let mut setup = paper_setup();
     let mut machine = setup.start();
     machine
-        .run(&mut setup.memory, &setup.timetable, setup.budget)
+        .run(
+            &mut setup.memory,
+            &setup.timetable,
+            &setup.trace,
+            setup.budget,
+        )
         .unwrap();
     let (halted, memory) = (machine.clone(), setup.memory.clone());
-    let kind = machine.step(&mut setup.memory, &setup.timetable);
+    let kind = machine.step(&mut setup.memory, &setup.timetable, &setup.trace);
     assert_eq!(kind, Ok(Kind::Halted));
     assert_eq!((machine, setup.memory), (halted, memory));
 }
@@ -57,7 +67,11 @@ fn padded_interrupt_saves_the_context() {
     let mut machine = setup.start();
     let mut kinds = Vec::new();
     for _ in 0..4 {
-        kinds.push(machine.step(&mut setup.memory, &setup.timetable).unwrap());
+        kinds.push(
+            machine
+                .step(&mut setup.memory, &setup.timetable, &setup.trace)
+                .unwrap(),
+        );
     }
     assert_eq!(kinds, [Kind::Ran, Kind::Ran, Kind::Ran, Kind::Padded]);
     let context = machine.held().unwrap();
@@ -96,8 +110,12 @@ fn stamp_4_is_plain_at_10() {
     assert_eq!(step_of("4", 2), "2\tI\t10\t4500\t0000");
     let mut setup = enclave::Setup::read(sheet_with("A 4/").as_bytes()).unwrap();
     let mut machine = setup.start();
-    machine.step(&mut setup.memory, &setup.timetable).unwrap();
-    machine.step(&mut setup.memory, &setup.timetable).unwrap();
+    machine
+        .step(&mut setup.memory, &setup.timetable, &setup.trace)
+        .unwrap();
+    machine
+        .step(&mut setup.memory, &setup.timetable, &setup.trace)
+        .unwrap();
     assert_eq!(machine.sp(), 0xFFFC);
     assert_eq!(
         (setup.memory.word(0xFFFE), setup.memory.word(0xFFFC)),

@@ -14,7 +14,9 @@ fn held_fields() -> MachineFields {
     let mut setup = paper_setup();
     let mut machine = setup.start();
     for _ in 0..4 {
-        machine.step(&mut setup.memory, &setup.timetable).unwrap();
+        machine
+            .step(&mut setup.memory, &setup.timetable, &setup.trace)
+            .unwrap();
     }
     machine.fields()
 }
@@ -39,7 +41,9 @@ fn every_machine_of_a_run_is_restored() {
     while !machine.is_halted() {
         let restored = Machine::from_fields(paper_layout(), &machine.fields());
         assert_eq!(restored.as_ref(), Ok(&machine));
-        machine.step(&mut setup.memory, &setup.timetable).unwrap();
+        machine
+            .step(&mut setup.memory, &setup.timetable, &setup.trace)
+            .unwrap();
     }
     let restored = Machine::from_fields(paper_layout(), &machine.fields());
     assert_eq!(restored, Ok(machine));
@@ -50,13 +54,20 @@ fn restored_machine_goes_on_alike() {
     let mut setup = paper_setup();
     let mut machine = setup.start();
     for _ in 0..4 {
-        machine.step(&mut setup.memory, &setup.timetable).unwrap();
+        machine
+            .step(&mut setup.memory, &setup.timetable, &setup.trace)
+            .unwrap();
     }
     let mut restored = Machine::from_fields(paper_layout(), &machine.fields()).unwrap();
     let mut memory = setup.memory.clone();
     let ends = (
-        machine.run(&mut setup.memory, &setup.timetable, setup.budget),
-        restored.run(&mut memory, &setup.timetable, setup.budget),
+        machine.run(
+            &mut setup.memory,
+            &setup.timetable,
+            &setup.trace,
+            setup.budget,
+        ),
+        restored.run(&mut memory, &setup.timetable, &setup.trace, setup.budget),
     );
     assert_eq!(ends.0, ends.1);
     assert_eq!((machine, setup.memory), (restored, memory));

@@ -61,6 +61,28 @@ fn refusal_3_timetable() {
 }
 
 #[test]
+fn refusal_10_trace() {
+    let traced = |stamps: &[u64], words: usize| {
+        edited(|l| {
+            l.trace_stamps = stamps.to_vec();
+            l.trace_words = vec![0xAA; words];
+        })
+    };
+    let long: Vec<u64> = (1..=4097).collect();
+    for stamps in [&[0][..], &[0, 1], &[(1 << 62) + 1], &[5, 5], &[6, 5], &long] {
+        traced(stamps, stamps.len()).refused(10);
+    }
+    for (stamps, words) in [(0, 1), (1, 0), (1, 2), (2, 1), (4096, 4095), (4095, 4096)] {
+        traced(&long[..stamps], words).refused(10);
+    }
+    traced(&long[..4096], 4096).steps();
+    traced(&long[..4096], 4097).refused(10);
+    traced(&[1, 1 << 62], 2).steps();
+    traced(&[600], 1).steps();
+    traced(&[], 0).steps();
+}
+
+#[test]
 fn refusal_4_frame() {
     edited(|l| l.machine.registers[0] = 0x4401).refused(4);
     edited(|l| l.machine.registers[1] = 1).refused(4);
@@ -90,11 +112,12 @@ fn refusal_6_clock() {
 }
 
 #[test]
-fn refusals_come_in_number_order() {
+fn refusals_come_in_their_order() {
     let mut lent = edited(|l| {
         l.memory.pop();
         l.layout[4] = 0x8007;
         l.stamps = vec![0];
+        l.trace_words = vec![0];
         l.machine.registers[3] = 1;
         l.budget = 1_000_001;
         l.machine.time[0] = (1 << 62) + 1;
@@ -105,6 +128,8 @@ fn refusals_come_in_number_order() {
     lent.layout[4] = 0x4500;
     lent.refused(3);
     lent.stamps = vec![6];
+    lent.refused(10);
+    lent.trace_stamps = vec![6];
     lent.refused(4);
     lent.machine.registers[3] = 0;
     assert_eq!((lent.clone().run(), lent.clone().step()), (5, 6));
@@ -117,11 +142,14 @@ fn sheet_refused(sheet: &[u8], number: u8, line: u64) {
     let mut marks = Places {
         layout: [0xAA; 5],
         count: 0xAA,
+        records: 0xAA,
         budget: 0xAA,
         ..Places::zeroed()
     };
     marks.memory.fill(0xAA);
     marks.stamps.fill(0xAA);
+    marks.trace_stamps.fill(0xAA);
+    marks.trace_words.fill(0xAA);
     let (mut places, mut told) = (marks.clone(), 0xAA);
     assert_eq!((places.read(sheet, &mut told), told), (number, line));
     assert!(places == marks);
@@ -135,6 +163,21 @@ fn refusals_of_a_sheet() {
     sheet_refused(format!("{L}M\t4400\t4303\nG\t1000001\n").as_bytes(), 5, 3);
     sheet_refused(format!("{L}M\t4401\t4303\nG\t20\n").as_bytes(), 7, 2);
     sheet_refused(format!("{L}G\t20\nG\t20\n").as_bytes(), 7, 3);
+    for (records, number, line) in [
+        ("T\t0\t0001\n", 10, 2),
+        ("T\t4611686018427387905\t0001\n", 10, 2),
+        ("T\t6\t0001\nT\t6\t0001\n", 10, 3),
+        ("T\t6\t0001\nA\t9\nT\t5\t0001\n", 10, 4),
+        ("A\t6\nT\t6\t0001\nA\t6\n", 3, 4),
+        ("T\t06\t0001\n", 7, 2),
+        ("T\t6\t00a1\n", 7, 2),
+        ("T\t6\t001\n", 7, 2),
+        ("T\t6\n", 7, 2),
+        ("T\t0\t1\n", 7, 2),
+        ("T\t6\t0001\t0001\n", 7, 2),
+    ] {
+        sheet_refused(format!("{L}{records}G\t20\n").as_bytes(), number, line);
+    }
     sheet_refused(L.as_bytes(), 7, 2);
     sheet_refused(b"", 7, 1);
     sheet_refused(&vec![b'L'; 32769], 8, 0);
@@ -168,13 +211,14 @@ fn numbers_and_words() {
     let words = Refusal::ALL.map(Refusal::word).join(" ");
     assert_eq!(
         words,
-        "map fence timetable frame distance clock line sheet word"
+        "map fence timetable trace frame distance clock line sheet word"
     );
     let numbers = Refusal::ALL.map(Refusal::number);
-    assert_eq!(numbers, [1, 2, 3, 4, 5, 6, 7, 8, 9]);
+    assert_eq!(numbers, [1, 2, 3, 10, 4, 5, 6, 7, 8, 9]);
     assert_eq!(Refusal::from_number(9), Some(Refusal::Word));
+    assert_eq!(Refusal::from_number(10), Some(Refusal::Trace));
     assert_eq!(
-        (Refusal::from_number(0), Refusal::from_number(10)),
+        (Refusal::from_number(0), Refusal::from_number(11)),
         (None, None)
     );
 }

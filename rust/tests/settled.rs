@@ -4,7 +4,7 @@ mod support;
 
 use enclave::{
     Budget, Instruction, Kind, Layout, Machine, Memory, Refusal, Register, Rights, Timetable,
-    Words, LAST_CLOCK, MOST_STAMPS,
+    Trace, Words, LAST_CLOCK, MOST_STAMPS,
 };
 use support::{fields_at, paper_layout};
 
@@ -40,7 +40,7 @@ fn computed(word: u16, r5: u16, r6: u16) -> (u16, u16) {
     let mut machine = Machine::from_fields(paper_layout(), &fields).unwrap();
     let mut memory = Memory::zeroed();
     memory.set_word(0x4400, word);
-    let kind = machine.step(&mut memory, &Timetable::empty());
+    let kind = machine.step(&mut memory, &Timetable::empty(), &Trace::empty());
     assert_eq!((kind, machine.clock()), (Ok(Kind::Ran), 1));
     (machine.register(register(5)), machine.status().bits())
 }
@@ -147,7 +147,7 @@ fn machine_at(clock: u64) -> (Machine, Memory) {
 #[test]
 fn clock_2_to_the_62_steps() {
     let (mut machine, mut memory) = machine_at(LAST_CLOCK);
-    let kind = machine.step(&mut memory, &Timetable::empty());
+    let kind = machine.step(&mut memory, &Timetable::empty(), &Trace::empty());
     assert_eq!((kind, machine.clock()), (Ok(Kind::Ran), LAST_CLOCK + 1));
 }
 
@@ -155,9 +155,10 @@ fn clock_2_to_the_62_steps() {
 fn clock_above_2_to_the_62_is_refused() {
     let (mut machine, mut memory) = machine_at(LAST_CLOCK + 1);
     let before = (machine.clone(), memory.clone());
-    let none = Timetable::empty();
-    assert_eq!(machine.step(&mut memory, &none), Err(Refusal::Clock));
-    let ran = machine.run(&mut memory, &none, Budget::MOST);
+    let (timetable, trace) = (Timetable::empty(), Trace::empty());
+    let stepped = machine.step(&mut memory, &timetable, &trace);
+    assert_eq!(stepped, Err(Refusal::Clock));
+    let ran = machine.run(&mut memory, &timetable, &trace, Budget::MOST);
     assert_eq!(ran, Err(Refusal::Clock));
     assert_eq!((machine, memory), before);
 }
@@ -165,8 +166,9 @@ fn clock_above_2_to_the_62_is_refused() {
 #[test]
 fn run_stops_above_2_to_the_62() {
     let (mut machine, mut memory) = machine_at(LAST_CLOCK);
+    let (timetable, trace) = (Timetable::empty(), Trace::empty());
     let stop = machine
-        .run(&mut memory, &Timetable::empty(), Budget::MOST)
+        .run(&mut memory, &timetable, &trace, Budget::MOST)
         .unwrap();
     assert_eq!((stop.end, stop.steps), (enclave::End::Clock, 1));
 }

@@ -19,7 +19,12 @@ fn padded_clocks(name: &str) -> Vec<u64> {
 fn last_registers(name: &str) -> [u16; 16] {
     let mut setup = Setup::read(&worked_sheet(name)).unwrap();
     let mut machine = setup.start();
-    let stop = machine.run(&mut setup.memory, &setup.timetable, setup.budget);
+    let stop = machine.run(
+        &mut setup.memory,
+        &setup.timetable,
+        &setup.trace,
+        setup.budget,
+    );
     assert_eq!(stop.unwrap().end, End::Halted);
     *machine.registers()
 }
@@ -94,7 +99,9 @@ fn exit_of(name: &str) -> ([u16; 16], u64) {
             Some(clock) if !inside => return (*machine.registers(), machine.clock() - clock),
             _ => {}
         }
-        machine.step(&mut setup.memory, &setup.timetable).unwrap();
+        machine
+            .step(&mut setup.memory, &setup.timetable, &setup.trace)
+            .unwrap();
     }
 }
 
@@ -114,7 +121,7 @@ fn first_reset(name: &str) -> Option<Cause> {
     let mut setup = Setup::read(&worked_sheet(name)).unwrap();
     let mut machine = setup.start();
     for _ in 0..setup.budget.steps() {
-        let kind = machine.step(&mut setup.memory, &setup.timetable);
+        let kind = machine.step(&mut setup.memory, &setup.timetable, &setup.trace);
         if let Kind::Reset(cause) = kind.unwrap() {
             return Some(cause);
         }
@@ -154,13 +161,13 @@ fn runs_as_it_steps(name: &str) {
         let mut ran = setup.start();
         let budget = Budget::new(steps).unwrap();
         let stop = ran
-            .run(&mut setup.memory, &setup.timetable, budget)
+            .run(&mut setup.memory, &setup.timetable, &setup.trace, budget)
             .unwrap();
         assert_eq!((&ran, &setup.memory), (&machine, &stepped.memory));
         assert_eq!(stop.end == End::Halted, machine.is_halted());
         assert!(stop.steps == steps || machine.is_halted());
         machine
-            .step(&mut stepped.memory, &stepped.timetable)
+            .step(&mut stepped.memory, &stepped.timetable, &stepped.trace)
             .unwrap();
     }
 }
@@ -202,6 +209,7 @@ fn setup_of_the_papers_sheet() {
     assert_eq!(setup.memory, memory);
     assert_eq!(setup.layout, support::paper_layout());
     assert_eq!(setup.timetable.stamps(), [6]);
+    assert!(setup.trace.is_empty());
     assert_eq!(setup.budget, Budget::new(20).unwrap());
 }
 

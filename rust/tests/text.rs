@@ -28,7 +28,7 @@ fn sentences_differ() {
     texts.extend(Cause::ALL.map(|c| c.to_string()));
     texts.sort();
     texts.dedup();
-    assert_eq!(texts.len(), 9 + 8);
+    assert_eq!(texts.len(), 10 + 8);
 }
 
 #[test]

@@ -6,7 +6,7 @@ use std::thread;
 
 use enclave::{
     Budget, Cause, End, Instruction, Kind, Layout, Machine, MachineFields, Memory, Refusal,
-    Register, Rights, Setup, SheetRefusal, Stop, Timetable, Transcript,
+    Register, Rights, Setup, SheetRefusal, Stop, Timetable, Trace, Transcript,
 };
 use support::worked_sheet;
 
@@ -15,7 +15,7 @@ fn goes_to_threads<T: Send + Sync>() {}
 #[test]
 fn types_are_send_and_sync() {
     goes_to_threads::<(Machine, Memory, Layout, Timetable<'_>, Budget)>();
-    goes_to_threads::<Transcript<'_>>();
+    goes_to_threads::<(Trace<'_>, Transcript<'_>)>();
     goes_to_threads::<(MachineFields, Setup, SheetRefusal, Stop, Rights)>();
     goes_to_threads::<(Kind, Cause, End, Refusal, Instruction, Register)>();
 }
@@ -24,7 +24,12 @@ fn types_are_send_and_sync() {
 fn finished(sheet: &[u8]) -> (Stop, Machine, Memory) {
     let mut setup = Setup::read(sheet).unwrap();
     let mut machine = setup.start();
-    let stop = machine.run(&mut setup.memory, &setup.timetable, setup.budget);
+    let stop = machine.run(
+        &mut setup.memory,
+        &setup.timetable,
+        &setup.trace,
+        setup.budget,
+    );
     (stop.unwrap(), machine, setup.memory)
 }
 
@@ -57,9 +62,16 @@ fn machines_in_threads_run_as_alone() {
 fn machine_goes_on_in_another_thread() {
     let mut setup = Setup::read(&worked_sheet("document-01")).unwrap();
     let mut machine = setup.start();
-    machine.step(&mut setup.memory, &setup.timetable).unwrap();
+    machine
+        .step(&mut setup.memory, &setup.timetable, &setup.trace)
+        .unwrap();
     let other = thread::spawn(move || {
-        let stop = machine.run(&mut setup.memory, &setup.timetable, setup.budget);
+        let stop = machine.run(
+            &mut setup.memory,
+            &setup.timetable,
+            &setup.trace,
+            setup.budget,
+        );
         (stop.unwrap().steps, machine.clock())
     });
     assert_eq!(other.join().unwrap(), (6, 27));

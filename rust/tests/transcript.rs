@@ -4,8 +4,8 @@ mod support;
 
 use std::io;
 
-use enclave::raw::Progress;
-use enclave::{Budget, Machine, Memory, Setup, Timetable, Transcript, LAST_CLOCK};
+use enclave::raw::{Lists, Progress};
+use enclave::{Budget, Machine, Memory, Setup, Timetable, Trace, Transcript, LAST_CLOCK};
 use support::raw::Lent;
 use support::{fields_at, paper_layout, paper_setup, transcript, worked_sheet, worked_sheets};
 
@@ -27,7 +27,12 @@ fn in_parts(transcript: &mut Transcript<'_>, size: usize) -> Vec<u8> {
 fn told(sheet: &[u8], size: usize) -> (String, Machine, Memory) {
     let mut setup = Setup::read(sheet).unwrap();
     let mut machine = setup.start();
-    let mut parts = machine.transcript(&mut setup.memory, &setup.timetable, setup.budget);
+    let mut parts = machine.transcript(
+        &mut setup.memory,
+        &setup.timetable,
+        &setup.trace,
+        setup.budget,
+    );
     let text = String::from_utf8(in_parts(&mut parts, size)).unwrap();
     (text, machine, setup.memory)
 }
@@ -36,7 +41,12 @@ fn told(sheet: &[u8], size: usize) -> (String, Machine, Memory) {
 fn ran(sheet: &[u8]) -> (Machine, Memory) {
     let mut setup = Setup::read(sheet).unwrap();
     let mut machine = setup.start();
-    let stop = machine.run(&mut setup.memory, &setup.timetable, setup.budget);
+    let stop = machine.run(
+        &mut setup.memory,
+        &setup.timetable,
+        &setup.trace,
+        setup.budget,
+    );
     stop.unwrap();
     (machine, setup.memory)
 }
@@ -64,7 +74,12 @@ fn written_whole_it_is_the_same() {
         let mut machine = setup.start();
         let mut out = Vec::new();
         machine
-            .transcript(&mut setup.memory, &setup.timetable, setup.budget)
+            .transcript(
+                &mut setup.memory,
+                &setup.timetable,
+                &setup.trace,
+                setup.budget,
+            )
             .write_to(&mut out)
             .unwrap();
         assert_eq!(out, transcript(&worked_sheet(&name)).as_bytes(), "{name}");
@@ -76,12 +91,17 @@ fn machine_goes_on_line_by_line() {
     let (mut setup, mut stepped) = (paper_setup(), paper_setup());
     let (mut machine, mut by_hand) = (setup.start(), stepped.start());
     let mut out = [0; Transcript::LINE_SIZE];
-    let mut lines = machine.transcript(&mut setup.memory, &setup.timetable, setup.budget);
+    let mut lines = machine.transcript(
+        &mut setup.memory,
+        &setup.timetable,
+        &setup.trace,
+        setup.budget,
+    );
     assert_eq!((lines.fill(&mut out), lines.steps()), (22, 0), "the header");
     assert_eq!((lines.fill(&mut out), lines.steps()), (16, 1));
     assert_eq!(&out[..16], b"1\tR\t2\t4404\t0008\n");
     by_hand
-        .step(&mut stepped.memory, &stepped.timetable)
+        .step(&mut stepped.memory, &stepped.timetable, &stepped.trace)
         .unwrap();
     assert_eq!((machine, setup.memory), (by_hand, stepped.memory));
 }
@@ -90,7 +110,12 @@ fn machine_goes_on_line_by_line() {
 fn less_than_a_line_of_room_gets_nothing() {
     let mut setup = paper_setup();
     let mut machine = setup.start();
-    let mut lines = machine.transcript(&mut setup.memory, &setup.timetable, setup.budget);
+    let mut lines = machine.transcript(
+        &mut setup.memory,
+        &setup.timetable,
+        &setup.trace,
+        setup.budget,
+    );
     for size in [0, 1, 22, 63] {
         assert_eq!(lines.fill(&mut vec![0; size]), 0);
     }
@@ -102,7 +127,12 @@ fn less_than_a_line_of_room_gets_nothing() {
 fn complete_transcript_has_no_more() {
     let mut setup = paper_setup();
     let mut machine = setup.start();
-    let mut lines = machine.transcript(&mut setup.memory, &setup.timetable, setup.budget);
+    let mut lines = machine.transcript(
+        &mut setup.memory,
+        &setup.timetable,
+        &setup.trace,
+        setup.budget,
+    );
     in_parts(&mut lines, 4096);
     let mut out = [0xAA; 100];
     assert_eq!((lines.fill(&mut out), out), (0, [0xAA; 100]));
@@ -118,8 +148,9 @@ fn of_nops(clock: u64, halted: bool, budget: u64) -> String {
     let mut memory = Memory::zeroed();
     memory.set_word(0x4400, 0x4303);
     memory.set_word(0x4402, 0x4303);
-    let (none, budget) = (Timetable::empty(), Budget::new(budget).unwrap());
-    let mut lines = machine.transcript(&mut memory, &none, budget);
+    let (timetable, trace) = (Timetable::empty(), Trace::empty());
+    let budget = Budget::new(budget).unwrap();
+    let mut lines = machine.transcript(&mut memory, &timetable, &trace, budget);
     String::from_utf8(in_parts(&mut lines, 64)).unwrap()
 }
 
@@ -150,7 +181,12 @@ fn most_steps_of_all() {
     setup.memory.set_word(0x4404, 0x4400);
     let mut machine = setup.start();
     let mut out = Vec::new();
-    let mut lines = machine.transcript(&mut setup.memory, &setup.timetable, Budget::MOST);
+    let mut lines = machine.transcript(
+        &mut setup.memory,
+        &setup.timetable,
+        &setup.trace,
+        Budget::MOST,
+    );
     lines.write_to(&mut out).unwrap();
     assert!(out.ends_with(b"\nS\t1000000\t1500000\n"));
     assert_eq!(out.split(|byte| *byte == b'\n').count(), 1_000_003);
@@ -175,7 +211,12 @@ impl io::Write for Narrow {
 fn writing_that_fails_is_told() {
     let mut setup = paper_setup();
     let mut machine = setup.start();
-    let mut lines = machine.transcript(&mut setup.memory, &setup.timetable, setup.budget);
+    let mut lines = machine.transcript(
+        &mut setup.memory,
+        &setup.timetable,
+        &setup.trace,
+        setup.budget,
+    );
     let error = lines.write_to(&mut Narrow(30)).unwrap_err();
     assert_eq!(error.kind(), io::ErrorKind::WriteZero);
 }
@@ -188,9 +229,16 @@ fn transcribe(lent: &mut Lent, progress: &mut Progress) -> (u8, [u8; 100], u64) 
         memory,
         layout,
         stamps,
+        trace_stamps,
+        trace_words,
         ..
     } = lent;
-    let answer = machine.transcribe(memory, layout, stamps, progress, &mut out, &mut written);
+    let lists = Lists {
+        stamps,
+        trace_stamps,
+        trace_words,
+    };
+    let answer = machine.transcribe(memory, layout, lists, progress, &mut out, &mut written);
     (answer, out, written)
 }
 
@@ -216,6 +264,8 @@ fn refusals_alter_nothing() {
     refused(1, |l| l.memory.truncate(65535));
     refused(2, |l| l.layout[4] = 0x8007);
     refused(3, |l| l.stamps = vec![6, 6]);
+    refused(10, |l| l.trace_stamps = vec![6]);
+    refused(10, |l| l.trace_words = vec![6]);
     refused(4, |l| l.machine.registers[3] = 1);
     refused(4, |l| l.machine.control[1] = 2);
     refused(5, |l| l.budget = 1_000_001);

@@ -1,7 +1,7 @@
 //! The exported functions on one block of numbers, so that all that a call is lent can be compared.
 #![allow(dead_code)]
 
-use enclave::raw::{self, Numbers};
+use enclave::raw::{self, Lists, Numbers};
 
 /// All that step and run are lent.
 #[derive(Clone, PartialEq, Debug)]
@@ -10,6 +10,8 @@ pub struct Lent {
     pub memory: Vec<u8>,
     pub layout: [u16; 5],
     pub stamps: Vec<u64>,
+    pub trace_stamps: Vec<u64>,
+    pub trace_words: Vec<u16>,
     pub budget: u64,
     pub kind: u8,
     pub cause: u8,
@@ -35,6 +37,8 @@ impl Lent {
             memory,
             layout: [0x8000, 0x8008, 0x8100, 0x8104, 0x4500],
             stamps: vec![600],
+            trace_stamps: vec![],
+            trace_words: vec![],
             budget: 20,
             kind: 0xAA,
             cause: 0xAA,
@@ -50,16 +54,26 @@ impl Lent {
     }
 
     pub fn step(&mut self) -> u8 {
+        let lists = Lists {
+            stamps: &self.stamps,
+            trace_stamps: &self.trace_stamps,
+            trace_words: &self.trace_words,
+        };
         let (kind, cause) = (&mut self.kind, &mut self.cause);
         self.machine
-            .step(&mut self.memory, &self.layout, &self.stamps, kind, cause)
+            .step(&mut self.memory, &self.layout, lists, kind, cause)
     }
 
     pub fn run(&mut self) -> u8 {
+        let lists = Lists {
+            stamps: &self.stamps,
+            trace_stamps: &self.trace_stamps,
+            trace_words: &self.trace_words,
+        };
         self.machine.run(
             &mut self.memory,
             &self.layout,
-            &self.stamps,
+            lists,
             self.budget,
             &mut self.end,
             &mut self.steps,
