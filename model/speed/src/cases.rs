@@ -1,6 +1,6 @@
-//! What is measured: a program, its timetable, and the calls that are made.
+//! What is measured: a program, its timetable and trace, and the calls that are made.
 
-use crate::programs::{plain, through, World};
+use crate::programs::{plain, reading, through, Trace, World};
 
 /// The calls of one turn.
 #[derive(Clone, Copy)]
@@ -19,7 +19,7 @@ pub struct Case {
     pub turns: u64,
 }
 
-/// The most stamps, and a few.
+/// The most stamps and the most records, and a few.
 const MANY: u64 = 4_096;
 const FEW: u64 = 64;
 
@@ -34,7 +34,9 @@ const FAR: u64 = 1 << 40;
 /// All cases; the first is the loop that other tools run too.
 pub fn cases() -> Vec<Case> {
     let mut cases = plain_runs();
+    cases.extend(traced_runs());
     cases.extend(module_runs());
+    cases.extend(readings());
     cases.extend(steps());
     cases
 }
@@ -90,6 +92,34 @@ fn plain_runs() -> Vec<Case> {
     ]
 }
 
+/// The same with as many records as stamps, each record between two stamps.
+fn traced_runs() -> Vec<Case> {
+    let world = |after, clock| {
+        let trace = Trace::at(stamps(MANY, after + 25));
+        World::new(&plain(), stamps(MANY, after), clock).traced(trace)
+    };
+    vec![
+        case(
+            "run, plain loop, 4,096 stamps and records ahead",
+            world(FAR, 0),
+            run(100_000),
+            1,
+        ),
+        case(
+            "run, plain loop, 4,096 stamps and records passing",
+            world(0, 0),
+            run(111_000),
+            1,
+        ),
+        case(
+            "run, plain loop, 4,096 stamps and records behind",
+            world(0, 1_000_000),
+            run(100_000),
+            1,
+        ),
+    ]
+}
+
 /// Runs through the module, which pulses interrupt.
 fn module_runs() -> Vec<Case> {
     let world = |stamps| World::new(&through(), stamps, 0);
@@ -117,16 +147,60 @@ fn module_runs() -> Vec<Case> {
 /// Steps from one pulse to the next.
 const MODULE_STEPS: u64 = 17;
 
+/// Runs of a loop of IN. At the trace's start the clock stays between its first record and its second, at its end behind its last.
+fn readings() -> Vec<Case> {
+    let world = |records, clock| {
+        let trace = Trace::at(records);
+        World::new(&reading(), Vec::new(), clock).traced(trace)
+    };
+    let mut first = vec![5];
+    first.extend(stamps(MANY - 1, FAR));
+    let all = stamps(MANY, 0);
+    vec![
+        case(
+            "run, a loop of IN, no trace",
+            world(Vec::new(), 0),
+            run(1_000_000),
+            1,
+        ),
+        case(
+            "run, a loop of IN, at a trace's start",
+            world(first, 10),
+            run(100_000),
+            1,
+        ),
+        case(
+            "run, a loop of IN, a trace passing",
+            world(all.clone(), 0),
+            run(111_000),
+            1,
+        ),
+        case(
+            "run, a loop of IN, at a trace's end",
+            world(all, 1_000_000),
+            run(100_000),
+            1,
+        ),
+    ]
+}
+
 /// Step calls.
 fn steps() -> Vec<Case> {
     let world = |stamps| World::new(&plain(), stamps, 0);
     let work = Work::Steps(2_000_000);
+    let trace = Trace::at(stamps(MANY, FAR + 25));
     vec![
         case("step calls, plain loop", world(Vec::new()), work, 1),
         case(
             "step calls, plain loop, 64 stamps ahead",
             world(stamps(FEW, FAR)),
             work,
+            1,
+        ),
+        case(
+            "step calls, plain loop, 4,096 stamps and records",
+            world(stamps(MANY, FAR)).traced(trace),
+            Work::Steps(20_000),
             1,
         ),
     ]

@@ -2,12 +2,21 @@
 
 use crate::programs::World;
 use crate::subject::{Last, Subject};
-use enclave::raw::Numbers;
+use enclave::raw::{Lists, Numbers};
 
 /// A machine as the functions take it, and its memory.
 pub struct Library {
     machine: Numbers,
     memory: Vec<u8>,
+}
+
+/// The lists that a call is lent.
+fn lists(world: &World) -> Lists<'_> {
+    Lists {
+        stamps: &world.stamps,
+        trace_stamps: &world.trace.stamps,
+        trace_words: &world.trace.words,
+    }
 }
 
 impl Subject for Library {
@@ -23,7 +32,7 @@ impl Subject for Library {
         let number = self.machine.step(
             &mut self.memory,
             &world.layout,
-            &world.stamps,
+            lists(world),
             &mut kind,
             &mut cause,
         );
@@ -35,7 +44,7 @@ impl Subject for Library {
         let number = self.machine.run(
             &mut self.memory,
             &world.layout,
-            &world.stamps,
+            lists(world),
             budget,
             &mut end,
             &mut steps,

@@ -2,12 +2,20 @@
 
 use crate::programs::World;
 use crate::subject::{Last, Subject};
-use model::{Layout, Machine};
+use model::{Layout, Machine, Trace};
 
 pub struct Modelled {
     machine: Machine,
     layout: Layout,
     memory: Vec<u8>,
+}
+
+/// The model's form of a trace.
+fn trace(world: &World) -> Trace<'_> {
+    Trace {
+        stamps: &world.trace.stamps,
+        words: &world.trace.words,
+    }
 }
 
 impl Subject for Modelled {
@@ -23,13 +31,19 @@ impl Subject for Modelled {
 
     fn step(&mut self, world: &World) {
         self.machine
-            .step(&mut self.memory, &self.layout, &world.stamps)
+            .step(&mut self.memory, &self.layout, &world.stamps, trace(world))
             .expect("a step is taken");
     }
 
     fn run(&mut self, world: &World, budget: u64) -> u64 {
         self.machine
-            .run(&mut self.memory, &self.layout, &world.stamps, budget)
+            .run(
+                &mut self.memory,
+                &self.layout,
+                &world.stamps,
+                trace(world),
+                budget,
+            )
             .expect("a run is taken")
             .1
     }

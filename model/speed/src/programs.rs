@@ -5,18 +5,41 @@ pub struct World {
     pub memory: Vec<u8>,
     pub layout: [u16; 5],
     pub stamps: Vec<u64>,
+    pub trace: Trace,
     /// The clock to begin at.
     pub clock: u64,
 }
 
 impl World {
+    /// A world without a trace.
     pub fn new(words: &[(u16, u16)], stamps: Vec<u64>, clock: u64) -> World {
         World {
             memory: memory(words),
             layout: LAYOUT,
             stamps,
+            trace: Trace::default(),
             clock,
         }
+    }
+
+    /// The same world with a trace.
+    pub fn traced(self, trace: Trace) -> World {
+        World { trace, ..self }
+    }
+}
+
+/// A ride trace: the stamps of its records, and their words.
+#[derive(Default)]
+pub struct Trace {
+    pub stamps: Vec<u64>,
+    pub words: Vec<u16>,
+}
+
+impl Trace {
+    /// A record at each of these stamps, each with a word of its own.
+    pub fn at(stamps: Vec<u64>) -> Trace {
+        let words = (1..).take(stamps.len()).collect();
+        Trace { stamps, words }
     }
 }
 
@@ -70,6 +93,22 @@ pub fn through() -> Vec<(u16, u16)> {
     words
 }
 
+/// A loop of four INs, an ADD of what the last one gave and a jump back: 6 steps, 11 cycles.
+pub fn reading() -> Vec<(u16, u16)> {
+    let code = [
+        0x4036, 0x4404, // MOV #loop r6
+        0x0014, // loop: IN r4
+        0x0015, // IN r5
+        0x0017, // IN r7
+        0x0018, // IN r8
+        0x5809, // ADD r8 r9
+        0x4600, // JMP &r6
+    ];
+    let mut words = at(0x4400, &code);
+    words.push((0xFFFE, 0x4400));
+    words
+}
+
 /// Words in a row.
 fn at(start: u16, words: &[u16]) -> Vec<(u16, u16)> {
     (start..).step_by(2).zip(words.iter().copied()).collect()
@@ -84,8 +123,8 @@ fn memory(words: &[(u16, u16)]) -> Vec<u8> {
     memory
 }
 
-/// The bench sheet of a program and a timetable.
-pub fn sheet(words: &[(u16, u16)], stamps: impl Iterator<Item = u64>, budget: u64) -> Vec<u8> {
+/// The bench sheet of a program, a timetable and a trace.
+pub fn sheet(words: &[(u16, u16)], stamps: &[u64], trace: &Trace, budget: u64) -> Vec<u8> {
     let layout: Vec<String> = LAYOUT.iter().map(|word| format!("{word:04X}")).collect();
     let mut text = format!("L\t{}\n", layout.join("\t"));
     for (address, word) in words {
@@ -94,6 +133,10 @@ pub fn sheet(words: &[(u16, u16)], stamps: impl Iterator<Item = u64>, budget: u6
     for stamp in stamps {
         text += &format!("A\t{stamp}\n");
     }
+    for (stamp, word) in trace.stamps.iter().zip(&trace.words) {
+        text += &format!("T\t{stamp}\t{word:04X}\n");
+    }
     text += &format!("G\t{budget}\n");
+    assert!(text.len() <= 32_768, "a sheet that is not refused");
     text.into_bytes()
 }

@@ -4,14 +4,14 @@ use crate::measure::Row;
 
 pub fn heading() -> String {
     let (what, library, model) = ("what", "library ns", "model ns");
-    format!("{what:<44}{library:>12}{model:>12}{:>9}", "ratio")
+    format!("{what:<50}{library:>12}{model:>12}{:>9}", "ratio")
 }
 
 /// A row; its ratio is above 1 where the library is faster.
 pub fn line(row: &Row) -> String {
     let ratio = row.model / row.library;
     format!(
-        "{:<44}{:>12.2}{:>12.2}{ratio:>9.2}",
+        "{:<50}{:>12.2}{:>12.2}{ratio:>9.2}",
         row.what, row.library, row.model
     )
 }
