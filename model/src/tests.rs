@@ -990,26 +990,15 @@ fn refusals_in_order() {
     let mut short = vec![0; 65_535];
 
     let mut m = bad_frame;
-    assert_eq!(
-        m.run(&mut short, &bad_layout, &[0], NO_TRACE, 1_000_001),
-        Err(1)
-    );
-    assert_eq!(
-        m.run(&mut memory, &bad_layout, &[0], NO_TRACE, 1_000_001),
-        Err(2)
-    );
-    assert_eq!(
-        m.run(&mut memory, &LAYOUT, &[0], NO_TRACE, 1_000_001),
-        Err(3)
-    );
-    assert_eq!(
-        m.run(&mut memory, &LAYOUT, &[1], NO_TRACE, 1_000_001),
-        Err(4)
-    );
-    assert_eq!(m.step(&mut short, &bad_layout, &[0], NO_TRACE), Err(1));
-    assert_eq!(m.step(&mut memory, &bad_layout, &[0], NO_TRACE), Err(2));
-    assert_eq!(m.step(&mut memory, &LAYOUT, &[0], NO_TRACE), Err(3));
-    assert_eq!(m.step(&mut memory, &LAYOUT, &[1], NO_TRACE), Err(4));
+    let mut both_refuse = |memory: &mut [u8], layout: &Layout, stamp: u64, number: u8| {
+        let (stamps, late) = ([stamp], 1_000_001);
+        assert_eq!(m.run(memory, layout, &stamps, NO_TRACE, late), Err(number));
+        assert_eq!(m.step(memory, layout, &stamps, NO_TRACE), Err(number));
+    };
+    both_refuse(&mut short, &bad_layout, 0, 1);
+    both_refuse(&mut memory, &bad_layout, 0, 2);
+    both_refuse(&mut memory, &LAYOUT, 0, 3);
+    both_refuse(&mut memory, &LAYOUT, 1, 4);
     assert_eq!(m, bad_frame);
     let mut m = bad_clock;
     assert_eq!(

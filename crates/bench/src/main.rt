@@ -77,7 +77,7 @@ fn main(rt: HostRuntime) -> ExitCode {
         opened.transcript,
         &mut mem,
         opened.layout,
-        &stamps[..opened.count],
+        &stamps[..opened.stamps],
         trace,
         &mut page,
     );

@@ -7,7 +7,7 @@ pub fn pass_adds()
     ensures { PassAdds }
 {}
 
-// Without a record requests and device are those of the machine that knew no trace.
+// Without a record requests, passing time and device are those of the machine that knew no trace.
 #[tactic(auto, using(definition::proofs::time::TraceLaws::empty_trace))]
 pub fn empty_trace()
     ensures { EmptyTrace }

@@ -157,7 +157,7 @@ pub struct Requests<'a> {
     pub upcoming: usize,
     pub upcoming_record: usize,
     pub ghost within: { upcoming ≤ length lists.stamps.now },
-    pub ghost recorded: { upcoming_record ≤ length lists.trace.stamps.now },
+    pub ghost record_within: { upcoming_record ≤ length lists.trace.stamps.now },
 }
 
 impl<'a> RequestLists<'a> {

@@ -1,12 +1,13 @@
 -- What is claimed of the machine.
-use Rattle.std.specs.Prelude.{◌≡◌, Bool, true, false, ◌⊎◌, List, [], ◌∷◌, ℕ, ◌+◌, ◌-◌, ◌≤◌, ◌<◌, eqb, length, get_or, Option, None, Some, Ok, Err}
+use Rattle.std.specs.Prelude.{◌≡◌, Bool, true, false, ◌⊎◌, List, [], ◌∷◌, ℕ, ◌+◌, ◌-◌, ◌≤◌, ◌<◌, length, get_or, Option, None, Some, Ok, Err}
+use Rattle.std.specs.List.{All, Contains}
 use Rattle.base.specs.declared.refusal.Refusal.{Refusal}
 use Rattle.base.specs.declared.refusal.Refusal.TheVariants.{Distance, Clock}
 use Rattle.base.specs.Refusal.{refusal_number}
 use Rattle.base.specs.FirstFailure.{Test}
 use Rattle.base.specs.Limits.{last_clock}
 use Rattle.base.specs.Verdict.{verdict, unrefused}
-use Rattle.base.specs.Test.{when◌then◌else◌, all}
+use Rattle.base.specs.Test.{all}
 use Rattle.base.specs.Word.{drop_bit0, sum16}
 use Rattle.rows.specs.Words.{begun, two_words}
 use Rattle.isa.specs.declared.instruction.Instruction.{Instruction}
@@ -31,7 +32,7 @@ use Rattle.answers.specs.declared.answer.End.TheVariants.{Halted as HaltedEnd, C
 use Rattle.definition.specs.Memory.{byte_at, word_at}
 use Rattle.definition.specs.Registers.{pc, sr}
 use Rattle.definition.specs.Time.{request, pass, emptied, no_record, device_word}
-use Rattle.definition.specs.WithoutTrace.{request_without_trace, device_word_without_trace}
+use Rattle.definition.specs.WithoutTrace.{request_without_trace, pass_without_trace, device_word_without_trace}
 use Rattle.definition.specs.State.{World, world, is_held, reset_address, start, framed, held_visit}
 use Rattle.definition.specs.Judge.{reads, writes, privileged, is_reti, judge_act, judge}
 use Rattle.definition.specs.Act.{registers_after, memory_after}
@@ -48,11 +49,12 @@ use Rattle.definition.specs.Calls.{whole_memory, timetable, trace_fits, start_te
 unfoldable pub PassAdds : Type 0
 PassAdds = (S : Setting) (n m : ℕ) (t : Time) → pass S m (pass S n t) ≡ pass S (n + m) t
 
--- a trace without a record: requests and device are those of the machine that knew no trace
+-- a trace without a record: requests, passing time and device are those of the machine that knew no trace
 unfoldable pub EmptyTrace : Type 0
 EmptyTrace =
     (S : Setting) → no_record S.trace.stamps ≡ true
     → ((alarm : Option ℕ) (a b : ℕ) → request S alarm a b ≡ request_without_trace S alarm a b)
+    × ((n : ℕ) (t : Time) → pass S n t ≡ pass_without_trace S n t)
     × ((t : Time) → device_word S t ≡ device_word_without_trace S t)
 
 -- a record is a request as a stamp of the timetable is: either list may hold it
@@ -61,20 +63,10 @@ RecordsAreRequests =
     (L : Layout) (stamps words : List ℕ) (alarm : Option ℕ) (a b : ℕ)
     → request (setting_of L [] (trace_of stamps words)) alarm a b ≡ request_without_trace (setting_of L stamps no_trace) alarm a b
 
--- a stamp stands in a list
-unfoldable pub among : List ℕ → ℕ → Bool
-among [] s = false
-among (t ∷ stamps) s = when eqb t s then true else among stamps s
-
--- each stamp of a list stands in another
-unfoldable pub all_among : List ℕ → List ℕ → Bool
-all_among stamps [] = true
-all_among stamps (s ∷ others) = all (among stamps s ∷ all_among stamps others ∷ [])
-
 -- records whose stamps stand in the timetable add no request
 unfoldable pub RecordsCountOnce : Type 0
 RecordsCountOnce =
-    (S : Setting) → all_among S.stamps S.trace.stamps ≡ true → (alarm : Option ℕ) (a b : ℕ)
+    (S : Setting) → All (Contains S.stamps) S.trace.stamps → (alarm : Option ℕ) (a b : ℕ)
     → request S alarm a b ≡ request_without_trace S alarm a b
 
 -- IN reads the last record that the clock has come to: the one with this index, where the next, if there is one, is still ahead

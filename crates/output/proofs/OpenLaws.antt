@@ -41,22 +41,22 @@ front lent items i =
 -- what opening answers of a sheet that is refused
 abbrev pub refused_run : Layout → State → SheetRefusal → SheetRun
 refused_run L m r =
-    record { layout = L; count = 0; records = 0; transcript = record { state = m; steps = 0; budget = 0; remaining = RefusalLine r } }
+    record { layout = L; stamps = 0; records = 0; transcript = record { state = m; steps = 0; budget = 0; remaining = RefusalLine r } }
 
 -- and of one that is read
 abbrev pub read_run : Setup → State → SheetRun
-read_run setup m = record { layout = setup.layout; count = setup.stamps; records = setup.records; transcript = before m setup.budget }
+read_run setup m = record { layout = setup.layout; stamps = setup.stamps; records = setup.records; transcript = before m setup.budget }
 
 module _ (sheet : List ℕ) (lent : RunRoom) where
   pub opened_refused : (r : SheetRefusal) → Err r ≡ sheet_answer sheet → length lent.memory ≡ memory_bytes → (L : Layout) → L ≡ no_layout
       → (T : Transcript)
       → (T ≡ record { state = T.state; steps = 0; budget = 0; remaining = RefusalLine r }) × (whole_memory lent.memory ≡ true → T.state ≡ start lent.memory)
-      → OpenPromise sheet lent (record { layout = L; count = 0; records = 0; transcript = T }) lent
+      → OpenPromise sheet lent (record { layout = L; stamps = 0; records = 0; transcript = T }) lent
   unfolding sheet_output
   opened_refused r e l L p T u =
       let m = T.state in
       let q = u.1 (eq-eqb _ _ l) in
-      subst (λ (z : Transcript). OpenPromise sheet lent (record { layout = L; count = 0; records = 0; transcript = z }) lent) (sym u.0)
+      subst (λ (z : Transcript). OpenPromise sheet lent (record { layout = L; stamps = 0; records = 0; transcript = z }) lent) (sym u.0)
       (record {
         result =
             ap (λ (z : Layout). refused_run z m r) p
@@ -97,12 +97,12 @@ module _ (sheet : List ℕ) (lent : RunRoom) where
     own_records : take setup.records after.trace.stamps ≡ (sheet_trace sheet).stamps
     own_records =
         let i = traced in
-        rw (runs.recorded, h) (front lent.trace.stamps (sheet_trace sheet).stamps (omega arith))
+        rw (runs.records_counted, h) (front lent.trace.stamps (sheet_trace sheet).stamps (omega arith))
 
     own_words : take setup.records after.trace.words ≡ (sheet_trace sheet).words
     own_words =
         let i = traced in
-        rw (runs.recorded, i.0, h') (front lent.trace.words (sheet_trace sheet).words (omega arith))
+        rw (runs.records_counted, i.0, h') (front lent.trace.words (sheet_trace sheet).words (omega arith))
 
     -- and so the sheet's setting
     own : setting_opened (read_run setup (start after.memory)) after ≡ sheet_setting sheet setup
@@ -113,7 +113,7 @@ module _ (sheet : List ℕ) (lent : RunRoom) where
     loaded_room t = run_room (sheet_memory sheet) (sets lent.stamps 0 (sheet_stamps sheet)) t
 
     pub opened_read : (T : Transcript) → (T ≡ before T.state setup.budget) × (whole_memory after.memory ≡ true → T.state ≡ start after.memory)
-        → OpenPromise sheet lent (record { layout = setup.layout; count = setup.stamps; records = setup.records; transcript = T }) after
+        → OpenPromise sheet lent (record { layout = setup.layout; stamps = setup.stamps; records = setup.records; transcript = T }) after
     unfolding sheet_output
     opened_read T u =
         let m = T.state in
@@ -121,7 +121,7 @@ module _ (sheet : List ℕ) (lent : RunRoom) where
         let i = few (sheet_stamps sheet) runs.rising in
         let j = traced in
         let counted = runs.counted in
-        let recorded = runs.recorded in
+        let records_counted = runs.records_counted in
         let n : length after.stamps ≡ most_stamps = ap length g ∙ length-sets lent.stamps 0 (sheet_stamps sheet) ∙ k in
         let n' : length after.trace.stamps ≡ most_stamps =
         ap length h ∙ length-sets lent.trace.stamps 0 (sheet_trace sheet).stamps ∙ k' in
@@ -130,7 +130,7 @@ module _ (sheet : List ℕ) (lent : RunRoom) where
         let z : setup.budget - 0 ≡ setup.budget = omega arith in
         let S = setting_opened (read_run setup m) after in
         let ready = ready_at_start (sheet_setting sheet setup) after.memory (eq-eqb (length after.memory) memory_bytes l) runs.fence runs.rising runs.traced in
-        subst (λ (z : Transcript). OpenPromise sheet lent (record { layout = setup.layout; count = setup.stamps; records = setup.records; transcript = z }) after) (sym u.0)
+        subst (λ (z : Transcript). OpenPromise sheet lent (record { layout = setup.layout; stamps = setup.stamps; records = setup.records; transcript = z }) after) (sym u.0)
         (record {
           result = ap (read_run setup) (s ∙ ap start f) ∙ ap (opened_run sheet lent.memory) e;
           size = sym l;

@@ -45,23 +45,23 @@ abbrev pub opened_run : List ℕ → List ℕ → Answer → SheetRun
 opened_run sheet mem (Ok setup) =
     record {
       layout = setup.layout;
-      count = setup.stamps;
+      stamps = setup.stamps;
       records = setup.records;
       transcript = unwritten (sheet_memory sheet) setup.budget Header;
     }
-opened_run sheet mem (Err r) = record { layout = no_layout; count = 0; records = 0; transcript = unwritten mem 0 (RefusalLine r) }
+opened_run sheet mem (Err r) = record { layout = no_layout; stamps = 0; records = 0; transcript = unwritten mem 0 (RefusalLine r) }
 
 -- the setting of an opened sheet: its layout, and as many of the stamps and of the records as are its own
 abbrev pub setting_opened : SheetRun → RunRoom → Setting
 setting_opened r lent =
-    setting_of r.layout (take r.count lent.stamps) (trace_of (take r.records lent.trace.stamps) (take r.records lent.trace.words))
+    setting_of r.layout (take r.stamps lent.stamps) (trace_of (take r.records lent.trace.stamps) (take r.records lent.trace.words))
 
 -- what opening a sheet promises: its answer is the definition's; what is still to be written is all that the sheet leads to; filling is
 -- taken; memory, stamps and trace are those of the sheet, or as they came
 pub record OpenPromise (sheet : List ℕ) (before : RunRoom) (r : SheetRun) (after : RunRoom) : Type 0 where
   pub result : r ≡ opened_run sheet before.memory (sheet_answer sheet)
   pub size : memory_bytes ≡ length after.memory
-  pub fits : r.count ≤ length after.stamps
+  pub fits : r.stamps ≤ length after.stamps
   pub records_fit : (r.records ≤ length after.trace.stamps) × (r.records ≤ length after.trace.words)
   pub output : text_left (setting_opened r after) r.transcript after.memory ≡ sheet_output sheet
   pub taken : verdict (fill_tests (setting_opened r after) r.transcript after.memory r.transcript.remaining) ≡ unrefused

@@ -18,7 +18,7 @@ use transcribe::progress::Transcript;
 #[derive(Clone, Copy)]
 pub struct SheetRun {
     pub layout: Layout,
-    pub count: usize,
+    pub stamps: usize,
     pub records: usize,
     pub transcript: Transcript,
 }
@@ -60,7 +60,7 @@ pub fn open_sheet(
     match read_sheet(text) {
         Err(refused) => SheetRun {
             layout: no_layout(),
-            count: 0,
+            stamps: 0,
             records: 0,
             transcript: unwritten(mem, 0, Remaining::RefusalLine(refused)),
         },
@@ -70,7 +70,7 @@ pub fn open_sheet(
             load_trace(trace_stamps, trace_words, text);
             SheetRun {
                 layout: setup.layout,
-                count: setup.stamps,
+                stamps: setup.stamps,
                 records: setup.records,
                 transcript: unwritten(mem, setup.budget, Remaining::Header),
             }

@@ -1,5 +1,5 @@
 // A list that a call is lent: the stamps of the timetable, or the stamps or the words of the trace.
-ghost use Rattle.std.specs.Prelude.{◌≡◌, ◌+◌, length, IfSome};
+ghost use Rattle.std.specs.Prelude.{◌≡◌, ◌+◌, length, take, IfSome};
 
 use crate::command::Row;
 
@@ -15,7 +15,9 @@ pub struct List {
 
 impl List {
     // No number.
-    pub fn empty() -> List {
+    pub fn empty() -> List
+        ensures { result.count ≡ 0 }
+    {
         List {
             numbers: [0; LIST_ROOM],
             count: 0,
@@ -49,12 +51,16 @@ impl List {
     }
 
     // The numbers that were put there.
-    pub fn numbers(&self) -> Option<&[u64]> {
+    pub fn numbers(&self) -> Option<&[u64]>
+        ensures { IfSome result (λ s. s.now ≡ take self.now.count self.now.numbers) }
+    {
         self.numbers.get(..self.count)
     }
 
     // How many they are.
-    pub fn len(&self) -> usize {
+    pub fn len(&self) -> usize
+        ensures { result ≡ self.now.count }
+    {
         self.count
     }
 

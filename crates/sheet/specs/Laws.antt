@@ -14,7 +14,7 @@ pub record Runnable (setup : Setup) (stamps : List ℕ) (trace : Trace) : Type 0
   pub rising : timetable stamps ≡ true
   pub counted : setup.stamps ≡ length stamps
   pub traced : trace_fits trace ≡ true
-  pub recorded : setup.records ≡ length trace.stamps
+  pub records_counted : setup.records ≡ length trace.stamps
   pub budget_allowed : setup.budget ≤ most_budget
 
 -- what a sheet sets up, the machine takes

@@ -2,7 +2,7 @@
 -- code sees the same.
 use Rattle.std.specs.Prelude.{ℕ, ◌≡◌, true, List, [], ◌∷◌, ◌++◌, length}
 use Rattle.base.specs.Verdict.{unrefused}
-use Rattle.definition.specs.Setting.{no_trace, Setting, setting_of}
+use Rattle.definition.specs.Setting.{trace_of, Setting, setting_of}
 use Rattle.layout.specs.declared.sections.Layout.{Layout}
 use Rattle.layout.specs.Sections.{outside}
 use Rattle.answers.specs.declared.answer.Outcome.TheVariants.{Ran, Padded, Back, Halted}
@@ -19,9 +19,9 @@ use Rattle.secrecy.specs.Secrecy.{start_world, Premise}
 abbrev pub example_layout : Layout
 example_layout = record { code = record { start = 0x0040; end = 0x004A }; «data» = record { start = 0x0050; end = 0x0054 }; service = 0x0020 }
 
--- and one request, at stamp 5
+-- one request, a record's at stamp 5, and a stamp of the timetable that the run does not come to
 abbrev pub example_setting : Setting
-example_setting = setting_of example_layout (5 ∷ []) no_trace
+example_setting = setting_of example_layout (1000 ∷ []) (trace_of (5 ∷ []) (0x1234 ∷ []))
 
 -- outside: GIE is set, the module is entered; later some NOPs and HLT. The service routine: two NOPs and RETI
 abbrev pub outside_lines : List MLine

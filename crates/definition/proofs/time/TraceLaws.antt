@@ -1,14 +1,15 @@
 -- The trace: without a record the machine is the one that knew none; records are requests; IN reads the last that the clock has come to.
 -- Assumes nothing.
-use Rattle.std.proofs.Common.{Option, None, Some, ◌≡◌, true, false, refl, ap, add-one, eqb, List, [], ◌∷◌, ℕ, zero, suc, ◌≤◌, ◌<◌, length, get_or, arith}
+use Rattle.std.proofs.Common.{Option, None, Some, ◌≡◌, true, false, refl, ap, add-one, List, [], ◌∷◌, ℕ, zero, suc, ◌≤◌, ◌<◌, length, get_or, slice_index_or, ◌+◌, arith}
+use Rattle.std.specs.List.{All, Contains}
 use Rattle.std.proofs.lemmas.Bool.Decides.{nat_tests}
 use Rattle.base.specs.Test.{when◌then◌else◌}
-use Rattle.base.proofs.Tests.{cases, when_false, each, choices}
+use Rattle.base.proofs.Tests.{each, choices}
 use Rattle.definition.specs.Setting.{Trace}
-use Rattle.definition.specs.Time.{happening, earlier, earliest, request, no_record, last_word, device_word}
-use Rattle.definition.specs.WithoutTrace.{request_without_trace, device_word_without_trace}
+use Rattle.definition.specs.Time.{happening, earlier, earliest, request, pass, no_record, last_word, device_word}
+use Rattle.definition.specs.WithoutTrace.{request_without_trace, pass_without_trace, device_word_without_trace}
 use Rattle.definition.specs.Calls.{rising_from, timetable, trace_fits}
-use Rattle.definition.specs.Laws.{EmptyTrace, RecordsAreRequests, among, all_among, RecordsCountOnce, LastRecordRead, NoRecordYet}
+use Rattle.definition.specs.Laws.{EmptyTrace, RecordsAreRequests, RecordsCountOnce, LastRecordRead, NoRecordYet}
 use Rattle.definition.proofs.time.TimetableLaws.{rising_cons, timetable_rising}
 
 -- ---- requests
@@ -35,27 +36,30 @@ earlier_same x y = grind (arith, choices, nat_tests)
 
 module _ (a b : ℕ) where
   -- a stamp that stands in a list adds nothing to it
-  one_counted : (stamps : List ℕ) (s : ℕ) → among stamps s ≡ true → earlier (earliest a b stamps) (happening a b (Some s)) ≡ earliest a b stamps
-  unfolding earliest among
-  one_counted [] s h = grind arith
-  one_counted (t ∷ stamps) s h =
-      cases (eqb t s)
-      (λ e. let q : t ≡ s = grind (arith, nat_tests) in rw (← q) (earlier_same (happening a b (Some t)) (earliest a b stamps)))
-      (λ e.
+  one_counted : (stamps : List ℕ) (s k : ℕ) → k < length stamps → slice_index_or stamps k s ≡ s
+      → earlier (earliest a b stamps) (happening a b (Some s)) ≡ earliest a b stamps
+  unfolding earliest
+  one_counted [] s k h e = grind arith
+  one_counted (t ∷ stamps) s zero h e = rw (← e) (earlier_same (happening a b (Some t)) (earliest a b stamps))
+  one_counted (t ∷ stamps) s (suc k) h e =
       rw (earlier_earlier (happening a b (Some t)) (earliest a b stamps) (happening a b (Some s)))
-      (ap (earlier (happening a b (Some t))) (one_counted stamps s (rw (when_false (eqb t s) true (among stamps s) e) at h))))
+      (ap (earlier (happening a b (Some t))) (one_counted stamps s k (omega arith) e))
 
-  all_counted : (stamps others : List ℕ) → all_among stamps others ≡ true → earlier (earliest a b stamps) (earliest a b others) ≡ earliest a b stamps
-  unfolding earliest all_among
-  all_counted stamps [] h = earlier_never (earliest a b stamps)
-  all_counted stamps (s ∷ others) h =
-      let k = each (among stamps s ∷ all_among stamps others ∷ []) h in
-      rw (← earlier_earlier (earliest a b stamps) (happening a b (Some s)) (earliest a b others), one_counted stamps s k.0)
-      (all_counted stamps others k.1.0)
+  all_counted : (stamps others : List ℕ) → All (Contains stamps) others
+      → earlier (earliest a b stamps) (earliest a b others) ≡ earliest a b stamps
+  unfolding earliest
+  all_counted stamps [] c = earlier_never (earliest a b stamps)
+  all_counted stamps (s ∷ others) c =
+      let first = c 0 0 (omega arith) in
+      rw (
+        ← earlier_earlier (earliest a b stamps) (happening a b (Some s)) (earliest a b others),
+        one_counted stamps s first.0 first.1 first.2,
+      )
+      (all_counted stamps others (λ k d h. c (suc k) d (omega arith)))
 
 pub records_count_once : RecordsCountOnce
 unfolding RecordsCountOnce request request_without_trace
-records_count_once S h alarm a b = grind (arith, all_counted a b S.stamps S.trace.stamps)
+records_count_once S c alarm a b = grind (arith, all_counted a b S.stamps S.trace.stamps c)
 
 pub records_are_requests : RecordsAreRequests
 unfolding RecordsAreRequests request request_without_trace earliest
@@ -67,9 +71,10 @@ without_record [] h = refl
 without_record (s ∷ stamps) h = grind arith
 
 pub empty_trace : EmptyTrace
-unfolding EmptyTrace request request_without_trace device_word device_word_without_trace earliest when◌then◌else◌
+unfolding EmptyTrace request request_without_trace pass pass_without_trace device_word device_word_without_trace earliest when◌then◌else◌
 empty_trace S h = (
   λ alarm a b. rw (without_record S.trace.stamps h, earlier_never (earliest a b S.stamps)),
+  λ n t. rw (without_record S.trace.stamps h, earlier_never (earliest t.clock (t.clock + n) S.stamps)),
   λ t. grind (arith, choices),
 )
 
