@@ -1,4 +1,4 @@
--- Document 01's number of each cause of a reset, and the letter of each kind of step and of each end of a run.
+-- The papers' number of each cause of a reset, and the letter of each kind of step and of each end of a run.
 use Rattle.std.specs.Prelude.{ℕ, Bool, true, false}
 use Rattle.answers.specs.declared.answer.Cause.{Cause}
 use Rattle.answers.specs.declared.answer.Cause.TheVariants.{Execute, Reentry, FirstWord, SecondSide, SecondWord, Inside, Read, Write}
@@ -6,7 +6,7 @@ use Rattle.answers.specs.declared.answer.Outcome.{Outcome}
 use Rattle.answers.specs.declared.answer.Outcome.TheVariants.{Ran, Plain, Padded, Chained, Back, Reset, Halted}
 use Rattle.answers.specs.declared.answer.End.{End}
 use Rattle.answers.specs.declared.answer.Stopped.{Stopped}
-use Rattle.answers.specs.declared.answer.End.TheVariants.{Halted as HaltedEnd, Clock, Spent}
+use Rattle.answers.specs.declared.answer.End.TheVariants.{Halted as HaltedEnd, Clock, Address, Spent}
 
 -- 1 may not be executed; 2 entered while a visit is held; 3 the first word; 4 the second word's side; 5 the second word;
 -- 6 HLT, IN or OUT inside; 7 a read; 8 a write
@@ -30,10 +30,11 @@ kind_letter Back = 0x42
 kind_letter (Reset c) = 0x58
 kind_letter Halted = 0x48
 
--- H halted, T clock, S spent
+-- H halted, T clock, A address, S spent
 abbrev pub end_letter : End → ℕ
 end_letter HaltedEnd = 0x48
 end_letter Clock = 0x54
+end_letter Address = 0x41
 end_letter Spent = 0x53
 
 -- where a run stopped: why, and how many steps it made

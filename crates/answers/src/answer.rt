@@ -32,6 +32,7 @@ pub enum Outcome {
 pub enum End {
     Halted,
     Clock,
+    Address,
     Spent,
 }
 
@@ -78,13 +79,14 @@ impl Outcome {
 }
 
 impl End {
-    // The end's letter on the bench sheet; a method, as for an outcome.
+    // The end's letter; a method, as for an outcome.
     pub fn letter(self) -> u8
         ensures { result ≡ end_letter self }
     {
         match self {
             End::Halted => b'H',
             End::Clock => b'T',
+            End::Address => b'A',
             End::Spent => b'S',
         }
     }

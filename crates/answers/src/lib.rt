@@ -1,4 +1,4 @@
-// What start, step and run answer, with the numbers and letters that document 01 has for the cases.
+// What start, step and run answer, with the numbers and letters that the papers have for the cases.
 #![tactic(auto)]
 
 pub mod answer;

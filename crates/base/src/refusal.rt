@@ -15,6 +15,7 @@ pub enum Refusal {
     Sheet,
     Word,
     Trace,
+    Landmark,
 }
 
 // Why a sheet is refused: the first refusal, and the line that it is for. Line 0 is the sheet as a whole; no Option, since document 01 prints it.
@@ -49,6 +50,7 @@ impl From<Refusal> for u8 {
             Refusal::Sheet => 8,
             Refusal::Word => 9,
             Refusal::Trace => 10,
+            Refusal::Landmark => 11,
         }
     }
 }

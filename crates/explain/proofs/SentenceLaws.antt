@@ -2,7 +2,7 @@
 use Rattle.std.proofs.Common.{ℕ, ◌≡◌, ◌≤◌, List, ◌++◌, length, eqb, ◌∙◌, refl, arith, length-append, codes}
 use Rattle.base.specs.Test.{when◌then◌else◌}
 use Rattle.base.specs.declared.refusal.Refusal.{Refusal}
-use Rattle.base.specs.declared.refusal.Refusal.TheVariants.{Map, Fence, Timetable, Frame, Distance, Clock, Line as BadLine, Sheet, Word, Trace}
+use Rattle.base.specs.declared.refusal.Refusal.TheVariants.{Map, Fence, Timetable, Frame, Distance, Clock, Line as BadLine, Sheet, Word, Trace, Landmark}
 use Rattle.base.proofs.Tests.{cases}
 use Rattle.transcript.specs.Transcript.{decimal_bytes, decimal_from}
 use Rattle.transcript.specs.declared.line.Line.{Line}
@@ -33,6 +33,7 @@ label_text BadLine = codes " (7 line)\n"
 label_text Sheet = codes " (8 sheet)\n"
 label_text Word = codes " (9 word)\n"
 label_text Trace = codes " (10 trace)\n"
+label_text Landmark = codes " (11 landmark)\n"
 
 pub label_spelled : (r : Refusal) → refusal_label r ≡ label_text r
 unfolding refusal_label refusal_word decimal_bytes decimal_from when◌then◌else◌
@@ -46,6 +47,7 @@ label_spelled BadLine = refl
 label_spelled Sheet = refl
 label_spelled Word = refl
 label_spelled Trace = refl
+label_spelled Landmark = refl
 
 -- the three parts of a sentence
 pub explained : {entry exit : List ℕ} {empty labelled reasoned last : Line} {written : ℕ} (r : Refusal) (line : ℕ)

@@ -3,7 +3,7 @@ use Rattle.std.specs.Prelude.{ℕ, ◌≡◌, List, [], ◌∷◌, ◌++◌, eqb
 use Rattle.std.proofs.lemmas.List.Edits.{sets}
 use Rattle.base.specs.Test.{when◌then◌else◌}
 use Rattle.base.specs.declared.refusal.Refusal.{Refusal}
-use Rattle.base.specs.declared.refusal.Refusal.TheVariants.{Map, Fence, Timetable, Frame, Distance, Clock, Line, Sheet, Word, Trace}
+use Rattle.base.specs.declared.refusal.Refusal.TheVariants.{Map, Fence, Timetable, Frame, Distance, Clock, Line, Sheet, Word, Trace, Landmark}
 use Rattle.base.specs.Refusal.{refusal_number}
 use Rattle.transcript.specs.Transcript.{decimal_bytes, parts}
 
@@ -24,6 +24,7 @@ refusal_word Line = codes "line"
 refusal_word Sheet = codes "sheet"
 refusal_word Word = codes "word"
 refusal_word Trace = codes "trace"
+refusal_word Landmark = codes "landmark"
 
 -- a space, the refusal's number and word in brackets, and the newline
 unfoldable pub refusal_label : Refusal → List ℕ

@@ -43,6 +43,7 @@ fn label_of(refusal: Refusal) -> &'static [u8]
         Refusal::Sheet => b" (8 sheet)\n",
         Refusal::Word => b" (9 word)\n",
         Refusal::Trace => b" (10 trace)\n",
+        Refusal::Landmark => b" (11 landmark)\n",
     }
 }
 

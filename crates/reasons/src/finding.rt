@@ -15,7 +15,7 @@ pub fn reason_of(sheet: &[u8], refused: SheetRefusal) -> Reason {
         Refusal::Distance => Reason::quoting(Text::BudgetHigh, Place::new(line, 1)),
         Refusal::Line => line_reason(sheet, line),
         Refusal::Sheet => Reason::plain(Text::TooLong),
-        Refusal::Map | Refusal::Frame | Refusal::Clock | Refusal::Word => {
+        Refusal::Map | Refusal::Frame | Refusal::Landmark | Refusal::Clock | Refusal::Word => {
             Reason::plain(Text::NoReason)
         }
     }
