@@ -1,5 +1,5 @@
 // What is claimed of the machine: each claim is the contract of a function with nothing to do.
-ghost use Rattle.definition.specs.Laws.{PassAdds, EmptyTrace, RecordsAreRequests, RecordsCountOnce, LastRecordRead, NoRecordYet, StepCycles, HaltedStays, FramedAtStart, FrameKept, LengthKept, OnlyDistanceOrClock, GieKeptInside, NothingDueAtStart, NothingDueKept, AgeAtMostFive, WritesOwnSide, TouchesOwnSide, TwelveInside, TwelveInReturn, PaddedByStamp, PaddingSum, BarredUnread, NoReentry, SecondElsewhereUnread, PrivilegedInside, ChainsWhateverGie, ResetAfterStore, RunCounts, RunEnds, RunAdds, RefusalsInOrder, RefusedUntouched, OutsideLocal, InsideConfined};
+ghost use Rattle.definition.specs.Laws.{PassAdds, EmptyTrace, RecordsAreRequests, RecordsCountOnce, LastRecordRead, NoRecordYet, StepCycles, HaltedStays, FramedAtStart, FrameKept, LengthKept, OnlyDistanceLandmarkOrClock, GieKeptInside, NothingDueAtStart, NothingDueKept, AgeAtMostFive, WritesOwnSide, TouchesOwnSide, TwelveInside, TwelveInReturn, PaddedByStamp, PaddingSum, BarredUnread, NoReentry, SecondElsewhereUnread, PrivilegedInside, ChainsWhateverGie, ResetAfterStore, RunCounts, RunEnds, AddressSaid, NoStepAtStop, NoStopAddress, RunAdds, RunGoesOn, RefusalsInOrder, RefusedUntouched, OutsideLocal, InsideConfined};
 
 // Passing n and then m cycles is passing n + m.
 #[tactic(auto, using(definition::proofs::time::PassLaws::pass_adds))]
@@ -67,10 +67,10 @@ pub fn length_kept()
     ensures { LengthKept }
 {}
 
-// After start only refusals 5 and 6 can happen.
-#[tactic(auto, using(definition::proofs::frame::FrameLaws::only_distance_or_clock))]
-pub fn only_distance_or_clock()
-    ensures { OnlyDistanceOrClock }
+// After start only refusals 5, 11 and 6 can happen.
+#[tactic(auto, using(definition::proofs::frame::FrameLaws::only_distance_landmark_or_clock))]
+pub fn only_distance_landmark_or_clock()
+    ensures { OnlyDistanceLandmarkOrClock }
 {}
 
 // Code inside never alters GIE.
@@ -181,13 +181,37 @@ pub fn run_ends()
     ensures { RunEnds }
 {}
 
+// Where a run stops not halted, its clock not above 2^62, and at its stop address, it says "address".
+#[tactic(auto, using(definition::proofs::run::RunLaws::address_said))]
+pub fn address_said()
+    ensures { AddressSaid }
+{}
+
+// No step of a run begins at its stop address.
+#[tactic(auto, using(definition::proofs::run::RunLaws::no_step_at_stop))]
+pub fn no_step_at_stop()
+    ensures { NoStepAtStop }
+{}
+
+// Without a stop address a run is that of a machine whose runs know none.
+#[tactic(auto, using(definition::proofs::run::RunLaws::no_stop_address))]
+pub fn no_stop_address()
+    ensures { NoStopAddress }
+{}
+
 // Running n and then k steps is running n + k.
 #[tactic(auto, using(definition::proofs::run::RunLaws::run_adds))]
 pub fn run_adds()
     ensures { RunAdds }
 {}
 
-// Every call makes its tests in the order of their numbers, but 10 right after 3.
+// A run to a stop address and on from there is the run without it.
+#[tactic(auto, using(definition::proofs::run::RunLaws::run_goes_on))]
+pub fn run_goes_on()
+    ensures { RunGoesOn }
+{}
+
+// Every call makes its tests in the order of their numbers, but 10 right after 3 and 11 right after 5.
 #[tactic(auto, using(definition::proofs::run::CallLaws::refusals_in_order))]
 pub fn refusals_in_order()
     ensures { RefusalsInOrder }

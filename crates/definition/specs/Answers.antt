@@ -1,4 +1,4 @@
--- The answers of calls in document 01's numbers and letters; each is 0 where there is none.
+-- The answers of calls in the papers' numbers and letters; each is 0 where there is none.
 use Rattle.std.specs.Prelude.{ℕ, Result, Ok, Err}
 use Rattle.answers.specs.declared.answer.Stopped.{Stopped}
 use Rattle.base.specs.declared.refusal.Refusal.{Refusal}

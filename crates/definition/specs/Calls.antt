@@ -6,12 +6,15 @@ use Rattle.answers.specs.declared.answer.Outcome.{Outcome}
 use Rattle.base.specs.Test.{when◌then◌else◌, all}
 use Rattle.base.specs.FirstFailure.{Test, test}
 use Rattle.base.specs.Limits.{memory_bytes, last_clock, most_stamps, most_budget}
+use Rattle.base.specs.Word.{is_even}
 use Rattle.base.specs.Verdict.{verdict, unrefused}
 use Rattle.base.specs.declared.refusal.Refusal.{Refusal}
-use Rattle.base.specs.declared.refusal.Refusal.TheVariants.{Map, Fence, Timetable, Trace as TraceRefusal, Frame, Distance, Clock}
+use Rattle.base.specs.declared.refusal.Refusal.TheVariants.{Map, Fence, Timetable, Trace as TraceRefusal, Frame, Distance, Landmark, Clock}
 use Rattle.definition.specs.Setting.{Trace, Setting}
 use Rattle.layout.specs.Rules.{accepted}
 use Rattle.definition.specs.declared.state.State.{State}
+use Rattle.definition.specs.declared.stop_address.StopAddress.{StopAddress}
+use Rattle.definition.specs.declared.stop_address.StopAddress.TheVariants.{Nowhere, At}
 use Rattle.definition.specs.State.{World, start, framed}
 use Rattle.definition.specs.Run.{step_of, run}
 
@@ -32,6 +35,11 @@ timetable stamps = all (leb (length stamps) most_stamps ∷ rising_from 0 stamps
 unfoldable pub trace_fits : Trace → Bool
 trace_fits t = all (eqb (length t.stamps) (length t.words) ∷ timetable t.stamps ∷ [])
 
+-- a stop address, where one is given, is even
+abbrev pub stop_fits : StopAddress → Bool
+stop_fits Nowhere = true
+stop_fits (At a) = is_even a
+
 -- the tests of start
 abbrev pub start_tests : List ℕ → List (Test Refusal)
 start_tests mem = test Map (whole_memory mem) ∷ []
@@ -42,9 +50,13 @@ tests_found whole fence rising traced frame own early =
     test Map whole ∷ test Fence fence ∷ test Timetable rising ∷ test TraceRefusal traced ∷ test Frame frame
     ∷ (own ++ (test Clock early ∷ []))
 
--- a run's own test is the budget's
+-- the budget's test
 abbrev pub budget_tests : Bool → List (Test Refusal)
 budget_tests near = test Distance near ∷ []
+
+-- a run's own tests: the budget's, then the stop address's
+abbrev pub budget_and_stop_tests : Bool → Bool → List (Test Refusal)
+budget_and_stop_tests near even = budget_tests near ++ (test Landmark even ∷ [])
 
 module _ (S : Setting) where
   -- the tests of a call on a world
@@ -53,17 +65,17 @@ module _ (S : Setting) where
       tests_found (whole_memory w.memory) (accepted S.layout) (timetable S.stamps) (trace_fits S.trace) (framed S w.state) own
       (leb w.state.time.clock last_clock)
 
-  -- run: 1 to 6, and 10 after 3
-  abbrev pub run_tests : ℕ → World → List (Test Refusal)
-  run_tests budget w = call_tests w (budget_tests (leb budget most_budget))
+  -- run: 1 to 6, with 10 after 3 and 11 after 5
+  abbrev pub run_tests : StopAddress → ℕ → World → List (Test Refusal)
+  run_tests stop budget w = call_tests w (budget_and_stop_tests (leb budget most_budget) (stop_fits stop))
 
-  -- a run's transcript: those of run without the clock's, since a run that ends by the clock still has its last line to come
+  -- a run's transcript: those of run without the stop address's, which it has not, and the clock's: one that ends by it has a line to come
   abbrev pub transcript_tests : ℕ → World → List (Test Refusal)
   transcript_tests budget w =
       tests_found (whole_memory w.memory) (accepted S.layout) (timetable S.stamps) (trace_fits S.trace) (framed S w.state)
       (budget_tests (leb budget most_budget)) true
 
-  -- step: those of run without the budget's
+  -- step: those of run without its own
   abbrev pub step_tests : World → List (Test Refusal)
   step_tests w = call_tests w []
 
@@ -98,11 +110,11 @@ module _ (S : Setting) where
   step_call w = step_answered w (verdict (step_tests S w))
 
   -- what a run call leaves, by the verdict
-  abbrev pub run_answered : ℕ → World → Result (Unit {0}) Refusal → Called (Result Stopped Refusal)
-  run_answered budget w (Ok _) =
-      let s = run S budget w in called s.state s.memory (Ok (stopped s.end s.steps))
-  run_answered budget w (Err r) = called w.state w.memory (Err r)
+  abbrev pub run_answered : StopAddress → ℕ → World → Result (Unit {0}) Refusal → Called (Result Stopped Refusal)
+  run_answered stop budget w (Ok _) =
+      let s = run S stop budget w in called s.state s.memory (Ok (stopped s.end s.steps))
+  run_answered stop budget w (Err r) = called w.state w.memory (Err r)
 
   -- run
-  unfoldable pub run_call : ℕ → World → Called (Result Stopped Refusal)
-  run_call budget w = run_answered budget w (verdict (run_tests S budget w))
+  unfoldable pub run_call : StopAddress → ℕ → World → Called (Result Stopped Refusal)
+  run_call stop budget w = run_answered stop budget w (verdict (run_tests S stop budget w))

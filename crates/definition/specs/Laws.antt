@@ -1,8 +1,8 @@
 -- What is claimed of the machine.
-use Rattle.std.specs.Prelude.{◌≡◌, Bool, true, false, ◌⊎◌, List, [], ◌∷◌, ℕ, ◌+◌, ◌-◌, ◌≤◌, ◌<◌, length, get_or, Option, None, Some, Ok, Err}
+use Rattle.std.specs.Prelude.{◌≡◌, Bool, true, false, ◌⊎◌, List, [], ◌∷◌, ◌++◌, ℕ, ◌+◌, ◌-◌, ◌≤◌, ◌<◌, length, get_or, Option, None, Some, Ok, Err}
 use Rattle.std.specs.List.{All, Contains}
 use Rattle.base.specs.declared.refusal.Refusal.{Refusal}
-use Rattle.base.specs.declared.refusal.Refusal.TheVariants.{Distance, Clock}
+use Rattle.base.specs.declared.refusal.Refusal.TheVariants.{Distance, Landmark, Clock}
 use Rattle.base.specs.Refusal.{refusal_number}
 use Rattle.base.specs.FirstFailure.{Test}
 use Rattle.base.specs.Limits.{last_clock}
@@ -24,11 +24,13 @@ use Rattle.alu.specs.Status.{gie}
 use Rattle.definition.specs.Setting.{trace_of, no_trace, Setting, setting_of}
 use Rattle.definition.specs.declared.state.Time.{Time}
 use Rattle.definition.specs.declared.state.State.{State}
+use Rattle.definition.specs.declared.stop_address.StopAddress.{StopAddress}
+use Rattle.definition.specs.declared.stop_address.StopAddress.TheVariants.{Nowhere, At}
 use Rattle.answers.specs.declared.answer.Cause.{Cause}
 use Rattle.answers.specs.declared.answer.Cause.TheVariants.{Execute, Reentry, SecondSide, Inside}
 use Rattle.answers.specs.declared.answer.Outcome.{Outcome}
 use Rattle.answers.specs.declared.answer.Outcome.TheVariants.{Ran, Plain, Padded, Chained, Back, Reset, Halted}
-use Rattle.answers.specs.declared.answer.End.TheVariants.{Halted as HaltedEnd, Clock as ClockEnd, Spent}
+use Rattle.answers.specs.declared.answer.End.TheVariants.{Halted as HaltedEnd, Clock as ClockEnd, Address as AddressEnd, Spent}
 use Rattle.definition.specs.Memory.{byte_at, word_at}
 use Rattle.definition.specs.Registers.{pc, sr}
 use Rattle.definition.specs.Time.{request, pass, emptied, no_record, device_word}
@@ -38,7 +40,8 @@ use Rattle.definition.specs.Judge.{reads, writes, privileged, is_reti, judge_act
 use Rattle.definition.specs.Act.{registers_after, memory_after}
 use Rattle.definition.specs.Interrupt.{Step, gives, padded, back}
 use Rattle.definition.specs.Step.{executed, judged, step}
-use Rattle.definition.specs.Run.{Stop, world_after, step_of, run, moves}
+use Rattle.definition.specs.Run.{at_stop, Stop, Move, world_after, step_of, run, moves}
+use Rattle.definition.specs.WithoutStopAddress.{run_without_stop, moves_without_stop, run_call_without_stop}
 use Rattle.definition.specs.Answers.{run_refusal, step_refusal}
 use Rattle.definition.specs.Promises.{Untouched}
 use Rattle.definition.specs.Calls.{whole_memory, timetable, trace_fits, start_tests, step_tests, run_tests, step_call, run_call}
@@ -119,12 +122,13 @@ pub record ReadyToRun (S : Setting) (w : World) : Type 0 where
   pub trace : trace_fits S.trace ≡ true
   pub frame : framed S w.state ≡ true
 
--- of a world that passes them, only refusals 5 and 6 can happen
-unfoldable pub OnlyDistanceOrClock : Type 0
-OnlyDistanceOrClock =
-    (S : Setting) (w : World) (budget : ℕ) → ReadyToRun S w
-    → (verdict (run_tests S budget w) ≡ unrefused)
-    ⊎ ((verdict (run_tests S budget w) ≡ Err Distance) ⊎ (verdict (run_tests S budget w) ≡ Err Clock))
+-- of a world that passes them, only refusals 5, 11 and 6 can happen
+unfoldable pub OnlyDistanceLandmarkOrClock : Type 0
+OnlyDistanceLandmarkOrClock =
+    (S : Setting) (w : World) (stop : StopAddress) (budget : ℕ) → ReadyToRun S w
+    → (verdict (run_tests S stop budget w) ≡ unrefused)
+    ⊎ ((verdict (run_tests S stop budget w) ≡ Err Distance)
+    ⊎ ((verdict (run_tests S stop budget w) ≡ Err Landmark) ⊎ (verdict (run_tests S stop budget w) ≡ Err Clock)))
 
 -- ---- the module
 
@@ -264,19 +268,42 @@ ResetAfterStore =
 -- the count is the number of steps made
 unfoldable pub RunCounts : Type 0
 RunCounts =
-    (S : Setting) (budget : ℕ) (w : World) → (run S budget w).steps ≡ length (moves S budget w)
+    (S : Setting) (stop : StopAddress) (budget : ℕ) (w : World) → (run S stop budget w).steps ≡ length (moves S stop budget w)
 
--- an end is said exactly when it is so: halted first, then the clock, then the budget
-pub record EndsSo (stop : Stop) (budget : ℕ) : Type 0 where
-  pub within : stop.steps ≤ budget
-  pub halted : stop.end ≡ HaltedEnd → stop.state.halted ≡ true
-  pub clock : stop.end ≡ ClockEnd → (stop.state.halted ≡ false) × (last_clock < stop.state.time.clock)
-  pub spent : stop.end ≡ Spent
-      → (stop.state.halted ≡ false) × (stop.state.time.clock ≤ last_clock) × (stop.steps ≡ budget)
+-- an end is said exactly when it is so: halted first, then the clock, then the stop address, then the budget
+pub record EndsSo (stop : StopAddress) (s : Stop) (budget : ℕ) : Type 0 where
+  pub within : s.steps ≤ budget
+  pub halted : s.end ≡ HaltedEnd → s.state.halted ≡ true
+  pub clock : s.end ≡ ClockEnd → (s.state.halted ≡ false) × (last_clock < s.state.time.clock)
+  pub address : s.end ≡ AddressEnd
+      → (s.state.halted ≡ false) × (s.state.time.clock ≤ last_clock) × (at_stop stop (pc s.state.registers) ≡ true)
+  pub spent : s.end ≡ Spent
+      → (s.state.halted ≡ false) × (s.state.time.clock ≤ last_clock) × (at_stop stop (pc s.state.registers) ≡ false) × (s.steps ≡ budget)
 
 -- so of every run
 unfoldable pub RunEnds : Type 0
-RunEnds = (S : Setting) (budget : ℕ) (w : World) → EndsSo (run S budget w) budget
+RunEnds = (S : Setting) (stop : StopAddress) (budget : ℕ) (w : World) → EndsSo stop (run S stop budget w) budget
+
+-- where a run stops not halted, its clock not above 2^62, and at its stop address, it says "address"
+unfoldable pub AddressSaid : Type 0
+AddressSaid =
+    (S : Setting) (stop : StopAddress) (budget : ℕ) (w : World) → (run S stop budget w).state.halted ≡ false
+    → (run S stop budget w).state.time.clock ≤ last_clock → at_stop stop (pc (run S stop budget w).state.registers) ≡ true
+    → (run S stop budget w).end ≡ AddressEnd
+
+-- no step of a run begins at its stop address
+unfoldable pub NoStepAtStop : Type 0
+NoStepAtStop =
+    (S : Setting) (a budget : ℕ) (w : World)
+    → All (λ (v : Move). pc v.before.state.registers ≡ a → ⊥) (moves S (At a) budget w)
+
+-- without a stop address, where a run stops, its steps and the answer to its caller are those of a machine whose runs know none
+unfoldable pub NoStopAddress : Type 0
+NoStopAddress =
+    (S : Setting) (budget : ℕ) (w : World)
+    → (run S Nowhere budget w ≡ run_without_stop S budget w)
+    × (moves S Nowhere budget w ≡ moves_without_stop S budget w)
+    × (run_call S Nowhere budget w ≡ run_call_without_stop S budget w)
 
 -- the world where a run stopped
 abbrev pub world_at : Stop → World
@@ -289,8 +316,18 @@ after_steps n s = record { state = s.state; memory = s.memory; end = s.end; step
 -- running n and then k is running n + k, where the first does not stop early
 unfoldable pub RunAdds : Type 0
 RunAdds =
-    (S : Setting) (n k : ℕ) (w : World) → (run S n w).end ≡ Spent
-    → run S (n + k) w ≡ after_steps n (run S k (world_at (run S n w)))
+    (S : Setting) (stop : StopAddress) (n k : ℕ) (w : World) → (run S stop n w).end ≡ Spent
+    → run S stop (n + k) w ≡ after_steps n (run S stop k (world_at (run S stop n w)))
+
+-- a run to a stop address and on from there, with the budget that is left, is the run without the address: where it stops, and its steps
+unfoldable pub RunGoesOn : Type 0
+RunGoesOn =
+    (S : Setting) (stop : StopAddress) (budget : ℕ) (w : World)
+    → (run S Nowhere budget w
+    ≡ after_steps (run S stop budget w).steps
+    (run S Nowhere (budget - (run S stop budget w).steps) (world_at (run S stop budget w))))
+    × (moves S Nowhere budget w
+    ≡ moves S stop budget w ++ moves S Nowhere (budget - (run S stop budget w).steps) (world_at (run S stop budget w)))
 
 -- ---- refusals
 
@@ -299,22 +336,22 @@ abbrev pub refusal_numbers : List (Test Refusal) → List ℕ
 refusal_numbers [] = []
 refusal_numbers (t ∷ tests) = refusal_number t.failure ∷ refusal_numbers tests
 
--- every call makes its tests in the order of their numbers, but 10 right after 3
+-- every call makes its tests in the order of their numbers, but 10 right after 3 and 11 right after 5
 unfoldable pub RefusalsInOrder : Type 0
 RefusalsInOrder =
-    (S : Setting) (budget : ℕ) (w : World)
+    (S : Setting) (stop : StopAddress) (budget : ℕ) (w : World)
     → (refusal_numbers (start_tests w.memory) ≡ 1 ∷ [])
     × (refusal_numbers (step_tests S w) ≡ 1 ∷ 2 ∷ 3 ∷ 10 ∷ 4 ∷ 6 ∷ [])
-    × (refusal_numbers (run_tests S budget w) ≡ 1 ∷ 2 ∷ 3 ∷ 10 ∷ 4 ∷ 5 ∷ 6 ∷ [])
+    × (refusal_numbers (run_tests S stop budget w) ≡ 1 ∷ 2 ∷ 3 ∷ 10 ∷ 4 ∷ 5 ∷ 11 ∷ 6 ∷ [])
 
 -- a call that is refused leaves the machine and every byte as they came
 unfoldable pub RefusedUntouched : Type 0
 RefusedUntouched =
-    (S : Setting) (budget : ℕ) (w : World)
+    (S : Setting) (stop : StopAddress) (budget : ℕ) (w : World)
     → Untouched (step_refusal (step_call S w).answer) w
     (world (step_call S w).state (step_call S w).memory)
-    × Untouched (run_refusal (run_call S budget w).answer) w
-    (world (run_call S budget w).state (run_call S budget w).memory)
+    × Untouched (run_refusal (run_call S stop budget w).answer) w
+    (world (run_call S stop budget w).state (run_call S stop budget w).memory)
 
 -- ---- what is seen from outside
 

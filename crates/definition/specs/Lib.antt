@@ -11,5 +11,6 @@ pub mod Step
 pub mod Run
 pub mod Answers
 pub mod Calls
+pub mod WithoutStopAddress
 pub mod Promises
 pub mod Laws

@@ -6,6 +6,7 @@ use Rattle.base.specs.declared.refusal.Refusal.{Refusal}
 use Rattle.base.specs.Verdict.{verdict, refused_by}
 use Rattle.definition.specs.Setting.{Setting}
 use Rattle.definition.specs.declared.state.State.{State}
+use Rattle.definition.specs.declared.stop_address.StopAddress.{StopAddress}
 use Rattle.definition.specs.State.{World}
 use Rattle.definition.specs.Run.{step_of, run}
 use Rattle.answers.specs.Outcome.{kind_letter, end_letter}
@@ -36,13 +37,13 @@ pub record StepPromise (S : Setting) (before after : World) (answer : Result Out
   pub refused : Untouched (step_refusal answer) before after
 
 -- what a run call promises of the world that it leaves and of its answer
-pub record RunPromise (S : Setting) (budget : ℕ) (before after : World) (answer : Result Stopped Refusal) : Type 0 where
+pub record RunPromise (S : Setting) (stop : StopAddress) (budget : ℕ) (before after : World) (answer : Result Stopped Refusal) : Type 0 where
   -- state, every byte of memory, and answer are the definition's
-  pub result : called after.state after.memory answer ≡ run_call S budget before
+  pub result : called after.state after.memory answer ≡ run_call S stop budget before
   -- the refusal's number is that of the first test that fails
-  pub number : run_refusal answer ≡ refused_by (verdict (run_tests S budget before))
+  pub number : run_refusal answer ≡ refused_by (verdict (run_tests S stop budget before))
   -- where it is taken, the end's letter and the count are those of the definition's run
-  pub end : run_refusal answer ≡ 0 → run_end answer ≡ end_letter (run S budget before).end
-  pub steps : run_refusal answer ≡ 0 → run_steps answer ≡ (run S budget before).steps
+  pub end : run_refusal answer ≡ 0 → run_end answer ≡ end_letter (run S stop budget before).end
+  pub steps : run_refusal answer ≡ 0 → run_steps answer ≡ (run S stop budget before).steps
   -- where it is refused, nothing is altered
   pub refused : Untouched (run_refusal answer) before after

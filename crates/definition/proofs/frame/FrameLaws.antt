@@ -1,4 +1,4 @@
--- The frame holds at the start and after every step: after one call, only refusals 5 and 6 are left. Assumes nothing.
+-- The frame holds at the start and after every step: after one call, only refusals 5, 11 and 6 are left. Assumes nothing.
 use Rattle.std.proofs.Common.{Option, Some, ◌≡◌, refl, sym, ◌∙◌, ap, Bool, true, List, ℕ, ◌≤◌, arith, leb, eqb, eqb-true, eq-eqb}
 use Rattle.std.proofs.lemmas.Bool.Decides.{nat_tests}
 use Rattle.base.specs.Test.{all}
@@ -23,7 +23,7 @@ use Rattle.definition.specs.Interrupt.{Step, age_of, due, reset, plain, padded, 
 use Rattle.definition.specs.Step.{saved_for, executed}
 use Rattle.definition.specs.Run.{step_of, world_after}
 use Rattle.definition.specs.Calls.{whole_memory, timetable, trace_fits}
-use Rattle.definition.specs.Laws.{FramedAtStart, FrameKept, LengthKept, ReadyToRun, OnlyDistanceOrClock}
+use Rattle.definition.specs.Laws.{FramedAtStart, FrameKept, LengthKept, ReadyToRun, OnlyDistanceLandmarkOrClock}
 use Rattle.definition.proofs.instruction.InstructionLaws.{halts_or_alarms}
 use Rattle.definition.proofs.step.StepLaws.{next, after_return, Way, resets, halts, runs, serves, pads, chains, returns, pads_again, step_case}
 use Rattle.definition.proofs.step.GieLaws.{due_at}
@@ -182,6 +182,6 @@ ready_kept S w s =
       frame = frame_kept S w.state w.memory s.layout s.frame;
     }
 
-pub only_distance_or_clock : OnlyDistanceOrClock
-unfolding OnlyDistanceOrClock first_failure
-only_distance_or_clock S w budget s = grind (arith, choices)
+pub only_distance_landmark_or_clock : OnlyDistanceLandmarkOrClock
+unfolding OnlyDistanceLandmarkOrClock first_failure
+only_distance_landmark_or_clock S w stop budget s = grind (arith, choices)

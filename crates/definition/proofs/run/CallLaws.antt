@@ -12,9 +12,10 @@ use Rattle.base.proofs.Tests.{Each, none_fails}
 use Rattle.layout.specs.Rules.{accepted}
 use Rattle.definition.specs.Setting.{Setting}
 use Rattle.definition.specs.declared.state.State.{State}
+use Rattle.definition.specs.declared.stop_address.StopAddress.{StopAddress}
 use Rattle.definition.specs.State.{World, world, framed}
 use Rattle.definition.specs.Answers.{start_refusal}
-use Rattle.definition.specs.Calls.{timetable, trace_fits, start_tests, tests_found, whole_memory, budget_tests, step_tests, run_tests, transcript_tests, called, start_answered, step_answered, run_answered, start_call, step_call, run_call}
+use Rattle.definition.specs.Calls.{timetable, trace_fits, start_tests, stop_fits, tests_found, whole_memory, budget_tests, budget_and_stop_tests, step_tests, run_tests, transcript_tests, called, start_answered, step_answered, run_answered, start_call, step_call, run_call}
 use Rattle.definition.specs.Promises.{StartPromise, StepPromise, RunPromise}
 use Rattle.definition.specs.Laws.{ReadyToRun, RefusalsInOrder, RefusedUntouched}
 
@@ -40,8 +41,9 @@ module _ (S : Setting) (w : World) where
   pub step_ready : verdict (step_tests S w) ≡ unrefused → ReadyToRun S w
   step_ready e = found_ready [] (leb w.state.time.clock last_clock) e
 
-  pub run_ready : (budget : ℕ) → verdict (run_tests S budget w) ≡ unrefused → ReadyToRun S w
-  run_ready budget e = found_ready (budget_tests (leb budget most_budget)) (leb w.state.time.clock last_clock) e
+  pub run_ready : (stop : StopAddress) (budget : ℕ) → verdict (run_tests S stop budget w) ≡ unrefused → ReadyToRun S w
+  run_ready stop budget e =
+      found_ready (budget_and_stop_tests (leb budget most_budget) (stop_fits stop)) (leb w.state.time.clock last_clock) e
 
   pub transcript_ready : (budget : ℕ) → verdict (transcript_tests S budget w) ≡ unrefused → ReadyToRun S w
   transcript_ready budget e = found_ready (budget_tests (leb budget most_budget)) true e
@@ -78,16 +80,16 @@ module _ (S : Setting) (before after : World) where
     unfolding step_call
     step_promised e = step_answers (verdict (step_tests S before)) refl e e
 
-  module _ (budget : ℕ) (answer : Result Stopped Refusal) where
-    run_answers : (v : Result (Unit {0}) Refusal) → verdict (run_tests S budget before) ≡ v
-        → called after.state after.memory answer ≡ run_answered S budget before v
-        → called after.state after.memory answer ≡ run_call S budget before → RunPromise S budget before after answer
+  module _ (stop : StopAddress) (budget : ℕ) (answer : Result Stopped Refusal) where
+    run_answers : (v : Result (Unit {0}) Refusal) → verdict (run_tests S stop budget before) ≡ v
+        → called after.state after.memory answer ≡ run_answered S stop budget before v
+        → called after.state after.memory answer ≡ run_call S stop budget before → RunPromise S stop budget before after answer
     run_answers v h e r = grind (arith, number_not_zero)
 
-    pub run_promised : called after.state after.memory answer ≡ run_call S budget before
-        → RunPromise S budget before after answer
+    pub run_promised : called after.state after.memory answer ≡ run_call S stop budget before
+        → RunPromise S stop budget before after answer
     unfolding run_call
-    run_promised e = run_answers (verdict (run_tests S budget before)) refl e e
+    run_promised e = run_answers (verdict (run_tests S stop budget before)) refl e e
 
 -- ---- what a call gives, by the verdict on its tests
 
@@ -96,19 +98,20 @@ module _ (S : Setting) (w : World) (v : Result (Unit {0}) Refusal) where
   unfolding step_call
   step_call_lem e = grind arith
 
-  pub run_call_lem : (budget : ℕ) → verdict (run_tests S budget w) ≡ v → run_call S budget w ≡ run_answered S budget w v
+  pub run_call_lem : (stop : StopAddress) (budget : ℕ) → verdict (run_tests S stop budget w) ≡ v
+      → run_call S stop budget w ≡ run_answered S stop budget w v
   unfolding run_call
-  run_call_lem budget e = grind arith
+  run_call_lem stop budget e = grind arith
 
 -- ---- every call
 
 pub refusals_in_order : RefusalsInOrder
 unfolding RefusalsInOrder
-refusals_in_order S budget w = (refl, refl, refl)
+refusals_in_order S stop budget w = (refl, refl, refl)
 
 pub refused_untouched : RefusedUntouched
 unfolding RefusedUntouched
-refused_untouched S budget w = (
+refused_untouched S stop budget w = (
   (step_promised S w (world (step_call S w).state (step_call S w).memory) (step_call S w).answer refl).refused,
-  (run_promised S w (world (run_call S budget w).state (run_call S budget w).memory) budget (run_call S budget w).answer refl).refused,
+  (run_promised S w (world (run_call S stop budget w).state (run_call S stop budget w).memory) stop budget (run_call S stop budget w).answer refl).refused,
 )
