@@ -6,6 +6,8 @@ use Rattle.base.proofs.Tests.{choices}
 use Rattle.base.specs.Verdict.{verdict, unrefused}
 use Rattle.layout.specs.Rules.{accepted}
 use Rattle.definition.specs.Setting.{Setting}
+use Rattle.definition.specs.declared.stop_address.StopAddress.{StopAddress}
+use Rattle.definition.specs.declared.stop_address.StopAddress.TheVariants.{Nowhere}
 use Rattle.definition.specs.State.{World}
 use Rattle.definition.specs.Run.{Going, ending, Move, world_after, step_of, run_from, run, none_or, moves}
 use Rattle.definition.specs.Calls.{step_tests, run_tests, step_call, run_call}
@@ -13,7 +15,7 @@ use Rattle.definition.specs.Laws.{HaltedStays, ReadyToRun, world_at}
 use Rattle.definition.proofs.step.CycleLaws.{halted_stays}
 use Rattle.definition.proofs.frame.FrameLaws.{ready_kept}
 use Rattle.definition.proofs.run.CallLaws.{all_hold, step_fit}
-use Rattle.definition.proofs.run.RunLaws.{Ends, running, halted_now, late_now, ends}
+use Rattle.definition.proofs.run.RunLaws.{Ends, running, halted_now, late_now, there_now, ends}
 use Rattle.secrecy.specs.Calls.{Call, stepping, moves_when, steps_of, left_by, run_of, left_by_all}
 use Rattle.secrecy.specs.Calls
 
@@ -47,22 +49,24 @@ module _ (S : Setting) where
 
   -- ---- the moves of a run
 
-  moves_chain : (left : ℕ) (w : World) → Chain w (moves S left w)
-  unfolding moves
-  moves_chain zero w = done
-  moves_chain (suc left) w = go (ending w.state) (ends w.state) (moves_chain left (next w))
-    where
-      go : (g : Going) → Ends w.state g → Chain (next w) (moves S left (next w))
-          → Chain w (none_or S (moved w ∷ moves S left (next w)) g)
-      go g (running h c) rest = more h rest
-      go g (halted_now h) rest = done
-      go g (late_now h c) rest = done
+  module _ (stop : StopAddress) where
+    moves_chain : (left : ℕ) (w : World) → Chain w (moves S stop left w)
+    unfolding moves
+    moves_chain zero w = done
+    moves_chain (suc left) w = go (ending stop w.state) (ends stop w.state) (moves_chain left (next w))
+      where
+        go : (g : Going) → Ends stop w.state g → Chain (next w) (moves S stop left (next w))
+            → Chain w (none_or (moved w ∷ moves S stop left (next w)) g)
+        go g (running h c a) rest = more h rest
+        go g (halted_now h) rest = done
+        go g (late_now h c) rest = done
+        go g (there_now h c a) rest = done
 
-  -- a run stops where its moves end
-  run_ends_there : (n left : ℕ) (w : World) → world_at (run_from S n left w) ≡ end_of w (moves S left w)
-  unfolding run_from moves end_of
-  run_ends_there n zero w = grind arith
-  run_ends_there n (suc left) w = grind (arith, run_ends_there (n + 1) left (next w))
+    -- a run stops where its moves end
+    run_ends_there : (n left : ℕ) (w : World) → world_at (run_from S stop n left w) ≡ end_of w (moves S stop left w)
+    unfolding run_from moves end_of
+    run_ends_there n zero w = grind arith
+    run_ends_there n (suc left) w = grind (arith, run_ends_there (n + 1) left (next w))
 
   -- ---- one call
 
@@ -73,8 +77,8 @@ module _ (S : Setting) where
 
   steps_chain : (w : World) (c : Call) → Chain w (steps_of S w c)
   unfolding steps_of
-  steps_chain w stepping = taken _ (moves_chain 1 w)
-  steps_chain w (Calls.running budget) = taken _ (moves_chain budget w)
+  steps_chain w stepping = taken _ (moves_chain Nowhere 1 w)
+  steps_chain w (Calls.running stop budget) = taken _ (moves_chain _ budget w)
 
   -- no step is taken from a clock above the last
   step_clock : (w : World) → verdict (step_tests S w) ≡ unrefused → w.state.time.clock ≤ last_clock
@@ -83,7 +87,7 @@ module _ (S : Setting) where
   left_end : (w : World) (c : Call) → left_by S w c ≡ end_of w (steps_of S w c)
   unfolding left_by steps_of step_call run_call run moves end_of ending HaltedStays
   left_end w stepping = grind (arith, choices, halted_stays S w.state w.memory, step_clock w)
-  left_end w (Calls.running budget) = grind (arith, run_ends_there 0 budget w)
+  left_end w (Calls.running stop budget) = grind (arith, run_ends_there stop 0 budget w)
 
   -- ---- a list of calls
 
@@ -98,7 +102,7 @@ module _ (S : Setting) where
   left_by_all_lem w [] = unfold end_of in refl
   left_by_all_lem w (c ∷ calls) = cc (left_by_all_lem (left_by S w c) calls, left_end w c, end_append w (steps_of S w c) (run_of S (left_by S w c) calls))
 
-  -- what refusals 1 to 4 and 10 test stays true, so that only 5 and 6 can happen on a list
+  -- what refusals 1 to 4 and 10 test stays true, so that only 5, 11 and 6 can happen on a list
   ready_end : {w : World} {vs : List Move} → Chain w vs → ReadyToRun S w → ReadyToRun S (end_of w vs)
   unfolding end_of
   ready_end done s = s
@@ -117,7 +121,7 @@ module _ (S : Setting) where
     no_steps : (w : World) (c : Call) → steps_of S w c ≡ []
     unfolding steps_of
     no_steps w stepping = none_taken _ _ (λ e. (all_hold (step_tests S w) e).1.0)
-    no_steps w (Calls.running budget) = none_taken _ _ (λ e. (all_hold (run_tests S budget w) e).1.0)
+    no_steps w (Calls.running stop budget) = none_taken _ _ (λ e. (all_hold (run_tests S stop budget w) e).1.0)
 
     pub none_run : (w : World) (calls : List Call) → run_of S w calls ≡ []
     unfolding run_of

@@ -6,6 +6,7 @@ use Rattle.base.proofs.Tests.{choices}
 use Rattle.layout.specs.declared.sections.Layout.{Layout}
 use Rattle.layout.specs.Rules.{accepted}
 use Rattle.definition.specs.Setting.{Setting}
+use Rattle.definition.specs.declared.stop_address.StopAddress.TheVariants.{Nowhere}
 use Rattle.definition.specs.Run.{Move}
 use Rattle.secrecy.specs.Calls.{running, run_of}
 use Rattle.secrecy.specs.Sighting.{View, Sighting, seen, resumes, sightings}
@@ -39,7 +40,7 @@ memory_with p i = memory_of p.outer i.words
 
 -- its run
 unfoldable pub run_with : Pair → Module → List Move
-run_with p i = run_of p.setting (start_world (memory_with p i)) (running i.steps ∷ [])
+run_with p i = run_of p.setting (start_world (memory_with p i)) (running Nowhere i.steps ∷ [])
 
 -- what was before the step of a sighting
 abbrev view_before : Sighting → View
@@ -107,7 +108,7 @@ refuted own Related number p a b fit ha hb ea eb r d secrecy =
     true≢false
     (sym (seen_equal number _ _
     (secrecy p.setting (memory_with p p.module_a) (memory_with p p.module_b)
-    (running p.module_a.steps ∷ []) (running p.module_b.steps ∷ []) p.last
+    (running Nowhere p.module_a.steps ∷ []) (running Nowhere p.module_b.steps ∷ []) p.last
     (starts p.outer p.module_a.words) (starts p.outer p.module_b.words)
     (same_outside p.setting.layout fit p.outer p.module_a.words p.module_b.words ha hb)
     (subst₂ (EndsRelated Related p.last) (sym (ap (λ (x : Shown). x.visits) ea)) (sym (ap (λ (x : Shown). x.visits) eb)) r)

@@ -3,11 +3,13 @@
 use Rattle.std.specs.Prelude.{ℕ, ◌≡◌, true, List, [], ◌∷◌, ◌++◌, length}
 use Rattle.base.specs.Verdict.{unrefused}
 use Rattle.definition.specs.Setting.{trace_of, Setting, setting_of}
+use Rattle.definition.specs.declared.stop_address.StopAddress.TheVariants.{Nowhere, At}
 use Rattle.layout.specs.declared.sections.Layout.{Layout}
 use Rattle.layout.specs.Sections.{outside}
 use Rattle.answers.specs.declared.answer.Outcome.TheVariants.{Ran, Padded, Back, Halted}
+use Rattle.answers.specs.declared.answer.End.TheVariants.{Address}
 use Rattle.definition.specs.Memory.{byte_at}
-use Rattle.definition.specs.Run.{Move}
+use Rattle.definition.specs.Run.{Move, run}
 use Rattle.definition.specs.Calls.{start_call}
 use Rattle.witness.specs.Lines.{MLine, M, memory_of, StepLine, line, lines_of}
 use Rattle.secrecy.specs.Calls.{running, run_of}
@@ -50,9 +52,9 @@ memory_a = memory_of outside_lines module_a
 unfoldable pub memory_b : List ℕ
 memory_b = memory_of outside_lines module_b
 
--- one run of both, with a request at stamp 5
+-- both runs, with a request at stamp 5: to the address where the module is left, and on from there
 unfoldable pub example_run : List ℕ → List Move
-example_run mem = run_of example_setting (start_world mem) (running 40 ∷ [])
+example_run mem = run_of example_setting (start_world mem) (running (At 0x0030) 40 ∷ running Nowhere 40 ∷ [])
 
 -- the lines of both runs up to where the module is left, and from there on
 abbrev pub lines_before : List StepLine
@@ -66,13 +68,15 @@ lines_later =
     ∷ line Ran 33 0x0038 8 0 ∷ line Ran 34 0x003A 8 0 ∷ line Halted 35 0x003C 8 0 ∷ []
 
 -- they differ in the module only, the premise holds of them, they are broken into at different instructions (the one goes back to
--- 0042 at 24, the other to 0044 at 25), and each has eleven sightings, a resumption among them
+-- 0042 at 24, the other to 0044 at 25), each comes to the address, and each has eleven sightings, a resumption among them
 pub record NotVacuous : Type 0 where
   pub starts_a : (start_call memory_a).answer ≡ unrefused
   pub starts_b : (start_call memory_b).answer ≡ unrefused
   pub same : (a : ℕ) → outside example_layout a ≡ true → byte_at memory_a a ≡ byte_at memory_b a
   pub run_a : lines_of (example_run memory_a) ≡ lines_before ++ (line Back 24 0x0042 8 0 ∷ line Ran 25 0x0044 8 0 ∷ lines_later)
   pub run_b : lines_of (example_run memory_b) ≡ lines_before ++ (line Back 25 0x0044 8 0 ∷ lines_later)
+  pub stops_a : (run example_setting (At 0x0030) 40 (start_world memory_a)).end ≡ Address
+  pub stops_b : (run example_setting (At 0x0030) 40 (start_world memory_b)).end ≡ Address
   pub premise : Premise 100 (visits example_setting away (example_run memory_a)) (visits example_setting away (example_run memory_b))
   pub seen_a : length (sightings example_setting 100 (example_run memory_a)) ≡ 11
   pub seen_b : length (sightings example_setting 100 (example_run memory_b)) ≡ 11

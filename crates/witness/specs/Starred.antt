@@ -3,6 +3,7 @@ use Rattle.std.specs.Prelude.{ℕ, List, [], ◌∷◌, ◌++◌, replicate}
 use Rattle.base.specs.Limits.{memory_bytes}
 use Rattle.base.specs.Case.{Case, case}
 use Rattle.definition.specs.Setting.{no_trace, setting_of}
+use Rattle.definition.specs.declared.stop_address.StopAddress.TheVariants.{Nowhere}
 use Rattle.isa.specs.Starred.{word_cases}
 use Rattle.alu.specs.Starred.{sum_cases}
 use Rattle.layout.specs.Starred.{sheet_layout, access_cases}
@@ -20,7 +21,7 @@ sheet =
 
 -- the first n step lines of the sheet with one request at the stamp
 unfoldable pub sheet_lines : ℕ → ℕ → List StepLine
-sheet_lines stamp n = lines_of (moves (setting_of sheet_layout (stamp ∷ []) no_trace) n (world (start sheet) sheet))
+sheet_lines stamp n = lines_of (moves (setting_of sheet_layout (stamp ∷ []) no_trace) Nowhere n (world (start sheet) sheet))
 
 -- stamp 5: step 3 is P at clock 17; stamp 7: step 4 is P at 19; stamp 4: step 2 is I at 10, sp FFFC; and the sheet itself, stamp 6
 abbrev pub step_cases : List {1} Case
