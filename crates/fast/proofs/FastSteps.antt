@@ -60,25 +60,25 @@ unfolding put_if
 put_if_length puts mem a w = grind (arith, choices, put_length)
 
 -- what the loop of fast steps keeps
-pub record FastLoop (L : Layout) (held : Bool) (until left : ℕ) (from s : FastState) (k : ℕ) : Type 0 where
+pub record FastLoop (L : Layout) (held : Bool) (until left stop_pc : ℕ) (from s : FastState) (k : ℕ) : Type 0 where
   pub size : length s.memory ≡ memory_bytes
-  pub ran : FastSteps L held until from k s
+  pub ran : FastSteps L held until stop_pc from k s
   pub within : k ≤ left
   pub room : s.clock ≤ clock_room
 
 module _
-    (L : Layout) (held : Bool) (until left : ℕ) (from s : FastState) (k : ℕ) (q : FastLoop L held until left from s k) (more : k < left)
-    (near : s.clock + most_fast_cycles ≤ until) (f : fetchable L held s.previous (get_or s.registers 0 0) ≡ true) (w : ℕ)
+    (L : Layout) (held : Bool) (until left stop_pc : ℕ) (from s : FastState) (k : ℕ) (q : FastLoop L held until left stop_pc from s k) (more : k < left)
+    (near : s.clock + most_fast_cycles ≤ until) (elsewhere : get_or s.registers 0 0 ≡ stop_pc → ⊥) (f : fetchable L held s.previous (get_or s.registers 0 0) ≡ true) (w : ℕ)
     (word : w ≡ word_at s.memory (get_or s.registers 0 0)) (e : Effect) (does : fast_at L s w ≡ Some e) where
   -- one more fast step
   pub fast_loop_next : until ≤ last_clock → (bytes : List ℕ) → bytes ≡ (applied e w s).memory
-      → FastLoop L held until left from (fast_state (applied e w s).registers (applied e w s).previous (applied e w s).clock bytes) (k + 1)
+      → FastLoop L held until left stop_pc from (fast_state (applied e w s).registers (applied e w s).previous (applied e w s).clock bytes) (k + 1)
   fast_loop_next early bytes b =
       let h = (effect_few L held s w e does).1 in
       record {
         size = grind (arith, b, put_if_length, q.size);
         ran =
-            one_more k (k + 1) s _ w e q.ran near f word does
+            one_more k (k + 1) s _ w e q.ran near elsewhere f word does
             (ap (λ (z : List ℕ). fast_state (applied e w s).registers (applied e w s).previous (applied e w s).clock z) b) refl;
         within = omega arith;
         room = omega arith;
@@ -91,7 +91,7 @@ time_at t clock = record { clock = clock; slot = t.slot; alarm = t.alarm }
 module _ (S : Setting) where
   -- a machine whose registers are lent, from which time only goes on up to a clock value
   module _
-      (rs saved mem : List ℕ) (c : Control) (until : ℕ) (masked held : Bool) (no_event : NoEventUntil S masked c.time until)
+      (rs saved mem : List ℕ) (c : Control) (until stop_pc : ℕ) (masked held : Bool) (no_event : NoEventUntil S masked c.time until)
       (halting : c.halted ≡ true → until ≡ 0) (holding : held ≡ is_held c.context)
       (gie_clear_first : masked ≡ true → gie (get_or rs 2 0) ≡ false) where
     -- the machine after k fast steps
@@ -108,13 +108,13 @@ module _ (S : Setting) where
 
     -- what holds there
     record Follows (k : ℕ) (s : FastState) : Type 0 where
-      ran : RanSteps S (world (with_registers rs saved c) mem) k (world (machine_at k s) s.memory)
+      ran : RanSteps S stop_pc (world (with_registers rs saved c) mem) k (world (machine_at k s) s.memory)
       going : NoEventUntil S masked (time_at c.time s.clock) until
       gie_clear : masked ≡ true → gie (get_or s.registers 2 0) ≡ false
 
     module _
         (k : ℕ) (s : FastState) (q : Follows k s) (near : s.clock + most_fast_cycles ≤ until)
-        (f : fetchable S.layout held s.previous (get_or s.registers 0 0) ≡ true) (w : ℕ)
+        (elsewhere : get_or s.registers 0 0 ≡ stop_pc → ⊥) (f : fetchable S.layout held s.previous (get_or s.registers 0 0) ≡ true) (w : ℕ)
         (word : w ≡ word_at s.memory (get_or s.registers 0 0)) (e : Effect) (does : fast_at S.layout s w ≡ Some e) (n : ℕ)
         (count : n ≡ k + 1) where
       -- the machine runs
@@ -168,19 +168,19 @@ module _ (S : Setting) where
           let u = no_event.bounded in
           record {
             ran =
-                on k n _ _ q.ran awake (omega arith)
+                on k n _ _ q.ran awake (omega arith) elsewhere
                 (fast_ran_once ∙ ap (λ (z : State). gives z (applied e w s).memory Ran) (sym applied_after)) count;
             going = no_event_later S masked (time_at c.time s.clock) until e.cycles q.going few.0 (omega arith);
             gie_clear = λ l. ap (λ (z : State). gie (sr z.registers)) applied_after ∙ stays_gie_clear l;
           }
 
-    follows : (k : ℕ) (s : FastState) → FastSteps S.layout held until (fast_state rs c.previous c.time.clock mem) k s → Follows k s
+    follows : (k : ℕ) (s : FastState) → FastSteps S.layout held until stop_pc (fast_state rs c.previous c.time.clock mem) k s → Follows k s
     unfolding saved_after when◌then◌else◌
     follows k s no_step = record { ran = none; going = no_event; gie_clear = gie_clear_first }
-    follows k s (one_more j n v next w e p near f word does eq count) =
-        subst (Follows n) (sym eq) (follows_on j v (follows j v p) near f w word e does n count)
+    follows k s (one_more j n v next w e p near elsewhere f word does eq count) =
+        subst (Follows n) (sym eq) (follows_on j v (follows j v p) near elsewhere f w word e does n count)
 
     -- fast steps are steps
-    pub fast_steps_ran : (k : ℕ) (s : FastState) → FastSteps S.layout held until (fast_state rs c.previous c.time.clock mem) k s
-        → RanSteps S (world (with_registers rs saved c) mem) k (world (machine_at k s) s.memory)
+    pub fast_steps_ran : (k : ℕ) (s : FastState) → FastSteps S.layout held until stop_pc (fast_state rs c.previous c.time.clock mem) k s
+        → RanSteps S stop_pc (world (with_registers rs saved c) mem) k (world (machine_at k s) s.memory)
     fast_steps_ran k s p = (follows k s p).ran

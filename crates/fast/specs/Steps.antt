@@ -8,9 +8,12 @@ use Rattle.layout.specs.Sections.{inside}
 use Rattle.layout.specs.Access.{may}
 use Rattle.definition.specs.Setting.{Setting}
 use Rattle.definition.specs.declared.state.SavedContext.{SavedContext}
+use Rattle.definition.specs.declared.stop_address.StopAddress.{StopAddress}
+use Rattle.definition.specs.declared.stop_address.StopAddress.TheVariants.{Nowhere, At}
 use Rattle.answers.specs.declared.answer.Outcome.TheVariants.{Ran}
 use Rattle.effect.specs.declared.effect.Effect.{Effect}
 use Rattle.definition.specs.Memory.{word_at}
+use Rattle.definition.specs.Registers.{pc}
 use Rattle.definition.specs.State.{World}
 use Rattle.definition.specs.Interrupt.{gives}
 use Rattle.definition.specs.Step.{saved_for}
@@ -51,20 +54,26 @@ applied e w s =
 abbrev pub most_fast_cycles : ℕ
 most_fast_cycles = 5
 
-module _ (L : Layout) (held : Bool) (until : ℕ) where
-  -- k fast steps, each begun early enough to be over at a clock value, lead from one such state to another
+-- the pc that a run stops at; where it has no stop address, a number that no pc is
+abbrev pub stop_pc_of : StopAddress → ℕ
+stop_pc_of Nowhere = 0x10000
+stop_pc_of (At a) = a
+
+module _ (L : Layout) (held : Bool) (until stop_pc : ℕ) where
+  -- k fast steps, each begun early enough to be over at a clock value and at another pc than this, lead from one such state to another
   pub data FastSteps (from : FastState) : ℕ → FastState → Type 0 where
     no_step : FastSteps from 0 from
     one_more : (k n : ℕ) (s next : FastState) (w : ℕ) (e : Effect) → FastSteps from k s → s.clock + most_fast_cycles ≤ until
+        → (get_or s.registers 0 0 ≡ stop_pc → ⊥)
         → fetchable L held s.previous (get_or s.registers 0 0) ≡ true → w ≡ word_at s.memory (get_or s.registers 0 0)
         → fast_at L s w ≡ Some e → next ≡ applied e w s → n ≡ k + 1 → FastSteps from n next
 
-module _ (S : Setting) where
-  -- k steps that only ran lead from one world to another, each from a machine that goes on
+module _ (S : Setting) (stop_pc : ℕ) where
+  -- k steps that only ran lead from one world to another, each from a machine that goes on and at another pc than this
   pub data RanSteps (from : World) : ℕ → World → Type 0 where
     none : RanSteps from 0 from
     on : (k n : ℕ) (w next : World) → RanSteps from k w → w.state.halted ≡ false → w.state.time.clock ≤ last_clock
-        → step_of S w ≡ gives next.state next.memory Ran → n ≡ k + 1 → RanSteps from n next
+        → (pc w.state.registers ≡ stop_pc → ⊥) → step_of S w ≡ gives next.state next.memory Ran → n ≡ k + 1 → RanSteps from n next
 
 -- the saved copy after so many steps that only ran
 unfoldable pub saved_after : ℕ → Option SavedContext → List ℕ → List ℕ

@@ -3,9 +3,10 @@ ghost use Rattle.std.specs.Prelude.{◌≡◌, ◌≤◌, length};
 ghost use Rattle.base.specs.Limits.{memory_bytes, last_clock};
 ghost use Rattle.clock.specs.Upcoming.{clock_room};
 ghost use Rattle.effect.specs.Effect.{put_if};
-ghost use Rattle.fast.specs.Steps.{fetchable, fast_state, FastSteps};
+ghost use Rattle.fast.specs.Steps.{fetchable, fast_state, stop_pc_of, FastSteps};
 
 use base::limits::{LAST_CLOCK, MEMORY_BYTES};
+use definition::stop_address::StopAddress;
 use effect::effect::{Fetched, fast_effect};
 use layout::access::Right;
 use layout::sections::Layout;
@@ -46,8 +47,19 @@ fn put_if(puts: bool, mem: &mut [u8], a: u16, w: u16)
     }
 }
 
-// Fast steps, as many as there are and as are left, each begun early enough to be over at the clock value `until`. What is beside the registers comes
-// as numbers and in no `Control`, which would go through memory (docs/DECISIONS.md, *The loop over step*).
+// The pc that a run stops at; where it has no stop address, a number that no pc is.
+pub fn stop_pc_of(stop: StopAddress) -> u32
+    ensures { result ≡ stop_pc_of stop }
+{
+    match stop {
+        StopAddress::Nowhere => 0x1_0000,
+        StopAddress::At(address) => u32::from(address),
+    }
+}
+
+// Fast steps, as many as there are and as are left, each begun early enough to be over at the clock value `until` and at another pc than
+// `stop_pc`. What is beside the registers comes as numbers and in no `Control`, which would go through memory (docs/DECISIONS.md,
+// *The loop over step*).
 #[tactic(auto, using(crate::specs::Steps::no_step))]
 fn fast_loop(
     registers: &mut [u16; 16],
@@ -58,21 +70,25 @@ fn fast_loop(
     layout: Layout,
     until: u64,
     left: u64,
+    stop_pc: u32,
 ) -> FastProgress
     requires size { length mem.old ≡ memory_bytes }
     requires room { (clock ≤ clock_room) × (until ≤ last_clock) }
-    ensures ran { FastSteps layout held until (fast_state registers.old previous clock mem.old) result.steps (fast_state registers.new result.previous result.clock mem.new) }
+    ensures ran { FastSteps layout held until stop_pc (fast_state registers.old previous clock mem.old) result.steps (fast_state registers.new result.previous result.clock mem.new) }
     ensures within { result.steps ≤ left }
 {
     let mut last = previous;
     let mut time = clock;
     let mut steps: u64 = 0;
-    // No `for`: `steps` is an answer, which would be made at each of the three ends and behind the loop.
+    // No `for`: `steps` is an answer, which would be made at each of the four ends and behind the loop.
     while steps < left {
         if until < time + MOST_FAST_CYCLES {
             break;
         }
         let pc = registers[0];
+        if u32::from(pc) == stop_pc {
+            break;
+        }
         if !may_fetch(layout, held, last, pc) {
             break;
         }
@@ -113,12 +129,15 @@ pub fn fast_steps(
     layout: Layout,
     until: u64,
     left: u64,
+    stop_pc: u32,
 ) -> FastProgress
-    ensures ran { FastSteps layout held until (fast_state registers.old previous clock mem.old) result.steps (fast_state registers.new result.previous result.clock mem.new) }
+    ensures ran { FastSteps layout held until stop_pc (fast_state registers.old previous clock mem.old) result.steps (fast_state registers.new result.previous result.clock mem.new) }
     ensures within { result.steps ≤ left }
 {
     if mem.len() == MEMORY_BYTES && clock <= CLOCK_ROOM && until <= LAST_CLOCK {
-        return fast_loop(registers, previous, clock, held, mem, layout, until, left);
+        return fast_loop(
+            registers, previous, clock, held, mem, layout, until, left, stop_pc,
+        );
     }
     FastProgress {
         previous,

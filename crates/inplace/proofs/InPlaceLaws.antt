@@ -21,27 +21,29 @@ use Rattle.inplace.proofs.RanLaws.{ran_none}
 
 module _ (S : Setting) where
   -- fast steps up to such a clock value are steps that only ran
-  pub fast_ran : (rs mem rs' bytes : List ℕ) (c : Control) (until : ℕ) (held : Bool) (progress : FastProgress)
+  pub fast_ran : (rs mem rs' bytes : List ℕ) (c : Control) (until stop_pc : ℕ) (held : Bool) (progress : FastProgress)
       → FastUntil S (get_or rs 2 0) c until → held ≡ is_held c.context
-      → FastSteps S.layout held until (fast_state rs c.previous c.time.clock mem) progress.steps
+      → FastSteps S.layout held until stop_pc (fast_state rs c.previous c.time.clock mem) progress.steps
       (fast_state rs' progress.previous progress.clock bytes)
-      → FastRanSteps S c rs mem progress rs' bytes
-  fast_ran rs mem rs' bytes c until held progress s h q =
-      λ saved. fast_steps_ran S rs saved mem c until _ held s.0 s.1 h (λ l. not-true _ l) _ _ q
+      → FastRanSteps S stop_pc c rs mem progress rs' bytes
+  fast_ran rs mem rs' bytes c until stop_pc held progress s h q =
+      λ saved. fast_steps_ran S rs saved mem c until stop_pc _ held s.0 s.1 h (λ l. not-true _ l) _ _ q
 
-  module _ (c : Control) (rs mem : List ℕ) (progress : FastProgress) (rs' bytes : List ℕ) (q : FastRanSteps S c rs mem progress rs' bytes) where
+  module _
+      (stop_pc : ℕ) (c : Control) (rs mem : List ℕ) (progress : FastProgress) (rs' bytes : List ℕ)
+      (q : FastRanSteps S stop_pc c rs mem progress rs' bytes) where
     -- a burst of no step leaves everything as it is
     pub burst_none : progress.steps ≡ 0 → (saved : List ℕ) → world (with_registers rs' saved c) bytes ≡ world (with_registers rs saved c) mem
     burst_none e saved =
-        ap (λ (w : World). world (with_registers w.state.registers saved c) w.memory) (ran_none S _ _ _ (q saved) e)
+        ap (λ (w : World). world (with_registers w.state.registers saved c) w.memory) (ran_none S stop_pc _ _ _ (q saved) e)
 
     -- after some fast steps the saved copy is the one that a step hands back
     pub burst_some : 1 ≤ progress.steps → (saved kept : List ℕ) → kept ≡ saved_for c.context saved → (d : Control) → d ≡ control_after c progress
-        → RanSteps S (world (with_registers rs saved c) mem) progress.steps (world (with_registers rs' kept d) bytes)
+        → RanSteps S stop_pc (world (with_registers rs saved c) mem) progress.steps (world (with_registers rs' kept d) bytes)
     unfolding saved_after
     burst_some i saved kept e d f =
-        subst (λ (x : Control). RanSteps S (world (with_registers rs saved c) mem) progress.steps (world (with_registers rs' kept x) bytes)) (sym f)
-        (subst (λ (z : List ℕ). RanSteps S (world (with_registers rs saved c) mem) progress.steps (world (with_registers rs' z (control_after c progress)) bytes))
+        subst (λ (x : Control). RanSteps S stop_pc (world (with_registers rs saved c) mem) progress.steps (world (with_registers rs' kept x) bytes)) (sym f)
+        (subst (λ (z : List ℕ). RanSteps S stop_pc (world (with_registers rs saved c) mem) progress.steps (world (with_registers rs' z (control_after c progress)) bytes))
         (when_false _ _ _ (ne_eqb progress.steps 0 (λ z. absurd (omega arith))) ∙ sym e) (q saved))
 
   -- what a full step leaves, apart and joined again

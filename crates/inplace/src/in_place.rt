@@ -14,7 +14,8 @@ use alu::status::gie_is_set;
 use answers::answer::Outcome;
 use clock::time::Requests;
 use definition::state::{SavedContext, State, Time};
-use fast::steps::{FastProgress, fast_steps};
+use definition::stop_address::StopAddress;
+use fast::steps::{FastProgress, fast_steps, stop_pc_of};
 use layout::sections::Layout;
 use step::step::{is_held, take_step};
 use storage::answered::Answered;
@@ -85,6 +86,7 @@ pub fn one_step(
         layout,
         until,
         1,
+        stop_pc_of(StopAddress::Nowhere),
     );
     if burst.steps > 0 {
         return Answered {

@@ -23,8 +23,8 @@ control_after c w =
 abbrev pub FastUntil : Setting → ℕ → Control → ℕ → Type 0
 FastUntil S status c until = NoEventUntil S (not (gie status)) c.time until × (c.halted ≡ true → until ≡ 0)
 
--- fast steps of a machine are steps that only ran, whatever its saved copy
-abbrev pub FastRanSteps : Setting → Control → List ℕ → List ℕ → FastProgress → List ℕ → List ℕ → Type 0
-FastRanSteps S c registers mem progress registers_then bytes =
-    (saved : List ℕ) → RanSteps S (world (with_registers registers saved c) mem) progress.steps
+-- fast steps of a machine, none at this pc, are steps that only ran, whatever its saved copy
+abbrev pub FastRanSteps : Setting → ℕ → Control → List ℕ → List ℕ → FastProgress → List ℕ → List ℕ → Type 0
+FastRanSteps S stop_pc c registers mem progress registers_then bytes =
+    (saved : List ℕ) → RanSteps S stop_pc (world (with_registers registers saved c) mem) progress.steps
     (world (with_registers registers_then (saved_after progress.steps c.context saved) (control_after c progress)) bytes)

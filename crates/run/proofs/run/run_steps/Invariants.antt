@@ -6,7 +6,7 @@ use Rattle.run.proofs.run.run_steps.Given as goal
 
 abbrev pub invariant-loop-current : goal.invariant-loop-current
 invariant-loop-current l =
-    LoopKeeps l.layout l.budget (world (with_registers l.initial.registers l.initial.saved l.initial.current) l.initial.mem)
+    LoopKeeps l.layout l.stop l.budget (world (with_registers l.initial.registers l.initial.saved l.initial.current) l.initial.mem)
     (world (with_registers l.registers l.saved l.current) l.mem) l.steps l.requests
     × (l.requests.lists ≡ l.fn.lists)
 
