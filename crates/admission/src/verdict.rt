@@ -5,16 +5,18 @@ ghost use Rattle.base.specs.Verdict.{verdict};
 ghost use Rattle.layout.specs.Rules.{accepted};
 ghost use Rattle.definition.specs.Setting.{setting_of};
 ghost use Rattle.definition.specs.State.{world};
-ghost use Rattle.definition.specs.Calls.{whole_memory, timetable, trace_fits, tests_found, budget_tests, transcript_tests, step_tests, run_tests};
+ghost use Rattle.definition.specs.Calls.{whole_memory, timetable, trace_fits, stop_fits, tests_found, budget_and_stop_tests, transcript_tests, step_tests, run_tests};
 ghost use Rattle.storage.specs.Control.{with_registers};
 ghost use Rattle.clock.specs.Trace.{lent_trace};
 
 use crate::frame::{is_framed, state_is_framed};
 use base::limits::{LAST_CLOCK, MEMORY_BYTES, MOST_BUDGET};
 use base::refusal::Refusal;
+use base::word::is_even;
 use clock::timetable::is_timetable;
 use clock::trace::Trace;
 use definition::state::State;
+use definition::stop_address::StopAddress;
 use layout::sections::Layout;
 use storage::control::Control;
 
@@ -39,7 +41,17 @@ fn budget_allowed(budget: u64) -> bool
     budget <= MOST_BUDGET
 }
 
-// The first of the tests 1 to 6 and 10 that fails, by what each found.
+// A stop address, where one is given, is even.
+fn stop_allowed(stop: StopAddress) -> bool
+    ensures { result ≡ stop_fits stop }
+{
+    match stop {
+        StopAddress::Nowhere => true,
+        StopAddress::At(address) => is_even(address),
+    }
+}
+
+// The first of the tests 1 to 6, 10 and 11 that fails, by what each found.
 #[tactic(auto, unfolding(base::specs::FirstFailure::first_failure, base::specs::Test::all))]
 fn first_refusal(
     whole: bool,
@@ -48,9 +60,10 @@ fn first_refusal(
     traced: bool,
     frame: bool,
     near: bool,
+    even: bool,
     early: bool,
 ) -> Result<(), Refusal>
-    ensures { result ≡ verdict (tests_found whole fence rising traced frame (budget_tests near) early) }
+    ensures { result ≡ verdict (tests_found whole fence rising traced frame (budget_and_stop_tests near even) early) }
 {
     if !whole {
         return Err(Refusal::Map);
@@ -70,13 +83,16 @@ fn first_refusal(
     if !near {
         return Err(Refusal::Distance);
     }
+    if !even {
+        return Err(Refusal::Landmark);
+    }
     if !early {
         return Err(Refusal::Clock);
     }
     Ok(())
 }
 
-// The first test of a call that fails: the tests that every call makes, with what is found of frame, budget and clock.
+// The first test of a call that fails: the tests that every call makes, with what is found of frame, budget, stop address and clock.
 // Inlined by a hint: with two lists to test the compiler makes it a call, and a step call takes 70 instructions more (docs/PERFORMANCE.md).
 #[inline(always)]
 fn judge_call(
@@ -86,9 +102,10 @@ fn judge_call(
     trace: Trace<'_>,
     frame: bool,
     near: bool,
+    even: bool,
     early: bool,
 ) -> Result<(), Refusal>
-    ensures { result ≡ verdict (tests_found (whole_memory mem.now) (accepted layout) (timetable stamps.now) (trace_fits (lent_trace trace.entry)) frame (budget_tests near) early) }
+    ensures { result ≡ verdict (tests_found (whole_memory mem.now) (accepted layout) (timetable stamps.now) (trace_fits (lent_trace trace.entry)) frame (budget_and_stop_tests near even) early) }
 {
     first_refusal(
         memory_is_whole(mem),
@@ -97,6 +114,7 @@ fn judge_call(
         trace.fits(),
         frame,
         near,
+        even,
         early,
     )
 }
@@ -110,9 +128,10 @@ pub fn judge_run(
     layout: Layout,
     stamps: &[u64],
     trace: Trace<'_>,
+    stop: StopAddress,
     budget: u64,
 ) -> Result<(), Refusal>
-    ensures { result ≡ verdict (run_tests (setting_of layout stamps.now (lent_trace trace.entry)) budget (world (with_registers registers.now saved.now control) mem.now)) }
+    ensures { result ≡ verdict (run_tests (setting_of layout stamps.now (lent_trace trace.entry)) stop budget (world (with_registers registers.now saved.now control) mem.now)) }
 {
     judge_call(
         mem,
@@ -121,11 +140,13 @@ pub fn judge_run(
         trace,
         is_framed(control, registers, saved, layout),
         budget_allowed(budget),
+        stop_allowed(stop),
         clock_allowed(control.time.clock),
     )
 }
 
-// The first test of a run's transcript that fails: any clock is taken.
+// The first test of a run's transcript that fails: it has no stop address, so nothing is found against one, and any clock is taken.
+#[tactic(auto, using(base::proofs::Tests::choices), unfolding(base::specs::FirstFailure::first_failure))]
 pub fn judge_transcript(
     m: State,
     mem: &[u8],
@@ -144,10 +165,11 @@ pub fn judge_transcript(
         state_is_framed(m, layout),
         budget_allowed(budget),
         true,
+        true,
     )
 }
 
-// The first test of a step that fails: a step takes no budget, so nothing is found against one.
+// The first test of a step that fails: a step takes neither budget nor stop address, so nothing is found against them.
 #[tactic(auto, using(base::proofs::Tests::choices), unfolding(base::specs::FirstFailure::first_failure))]
 pub fn judge_step(
     control: Control,
@@ -166,6 +188,7 @@ pub fn judge_step(
         stamps,
         trace,
         is_framed(control, registers, saved, layout),
+        true,
         true,
         clock_allowed(control.time.clock),
     )

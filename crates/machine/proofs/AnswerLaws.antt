@@ -7,6 +7,7 @@ use Rattle.base.specs.FirstFailure.{first_failure}
 use Rattle.base.specs.Verdict.{verdict, unrefused}
 use Rattle.base.proofs.Tests.{when_true, when_false}
 use Rattle.definition.specs.Setting.{Setting}
+use Rattle.definition.specs.declared.stop_address.StopAddress.{StopAddress}
 use Rattle.answers.specs.declared.answer.Outcome.{Outcome}
 use Rattle.definition.specs.Memory.{byte_at, word_at}
 use Rattle.definition.specs.Registers.{cleared}
@@ -50,11 +51,11 @@ module _ (S : Setting) (w : World) (v : Result (Unit {0}) Refusal) where
       (ap (λ (s : Step). called s.state s.memory (Ok s.outcome)) (h (step_fit S w (sym same ∙ e)))
       ∙ sym (step_call_lem S w unrefused (sym same ∙ e)))
 
-  module _ (budget : ℕ) where
-    pub run_refused : (r : Refusal) → v ≡ verdict (run_tests S budget w) → v ≡ Err r → RunPromise S budget w w (Err r)
-    run_refused r same e = run_promised S w w budget (Err r) (sym (run_call_lem S w (Err r) budget (sym same ∙ e)))
+  module _ (stop : StopAddress) (budget : ℕ) where
+    pub run_refused : (r : Refusal) → v ≡ verdict (run_tests S stop budget w) → v ≡ Err r → RunPromise S stop budget w w (Err r)
+    run_refused r same e = run_promised S w w stop budget (Err r) (sym (run_call_lem S w (Err r) stop budget (sym same ∙ e)))
 
-    pub run_taken : (next : World) (answer : Result Stopped Refusal) → v ≡ verdict (run_tests S budget w) → v ≡ unrefused
-        → called next.state next.memory answer ≡ run_answered S budget w unrefused → RunPromise S budget w next answer
+    pub run_taken : (next : World) (answer : Result Stopped Refusal) → v ≡ verdict (run_tests S stop budget w) → v ≡ unrefused
+        → called next.state next.memory answer ≡ run_answered S stop budget w unrefused → RunPromise S stop budget w next answer
     run_taken next answer same e h =
-        run_promised S w next budget answer (h ∙ sym (run_call_lem S w unrefused budget (sym same ∙ e)))
+        run_promised S w next stop budget answer (h ∙ sym (run_call_lem S w unrefused stop budget (sym same ∙ e)))

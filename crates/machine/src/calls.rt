@@ -14,6 +14,7 @@ use clock::lists::RequestLists;
 use clock::time::start_time;
 use clock::trace::Trace;
 use definition::state::State;
+use definition::stop_address::StopAddress;
 use inplace::in_place::one_step;
 use interrupt::service::{reset_address, reset_state};
 use layout::sections::Layout;
@@ -73,16 +74,17 @@ impl Machine {
         }
     }
 
-    // Steps until the machine is halted, its clock is above 2^62 or the budget is spent.
+    // Steps until the machine is halted, its clock is above 2^62, its pc is the stop address or the budget is spent.
     pub fn run(
         self,
         mem: &mut [u8],
         layout: Layout,
         stamps: &[u64],
         trace: Trace<'_>,
+        stop: StopAddress,
         budget: u64,
     ) -> Answered<Machine, Result<Stopped, Refusal>>
-        ensures { RunPromise (setting_of layout stamps.now (lent_trace trace.entry)) budget (world self.0 mem.old) (world result.machine.0 mem.new) result.answer }
+        ensures { RunPromise (setting_of layout stamps.now (lent_trace trace.entry)) stop budget (world self.0 mem.old) (world result.machine.0 mem.new) result.answer }
     {
         let mut registers = self.0.registers;
         let mut saved = self.0.saved;
@@ -94,6 +96,7 @@ impl Machine {
             layout,
             stamps,
             trace,
+            stop,
             budget,
         );
         Answered {
@@ -143,12 +146,13 @@ pub fn run_in_place(
     layout: Layout,
     stamps: &[u64],
     trace: Trace<'_>,
+    stop: StopAddress,
     budget: u64,
 ) -> Answered<Control, Result<Stopped, Refusal>>
-    ensures { RunPromise (setting_of layout stamps.now (lent_trace trace.entry)) budget (world (with_registers registers.old saved.old control) mem.old) (world (with_registers registers.new saved.new result.machine) mem.new) result.answer }
+    ensures { RunPromise (setting_of layout stamps.now (lent_trace trace.entry)) stop budget (world (with_registers registers.old saved.old control) mem.old) (world (with_registers registers.new saved.new result.machine) mem.new) result.answer }
 {
     match judge_run(
-        control, registers, saved, mem, layout, stamps, trace, budget,
+        control, registers, saved, mem, layout, stamps, trace, stop, budget,
     ) {
         Err(refusal) => Answered {
             machine: control,
@@ -156,7 +160,7 @@ pub fn run_in_place(
         },
         Ok(()) => {
             let lists = RequestLists { stamps, trace };
-            run_steps(control, registers, saved, mem, layout, lists, budget)
+            run_steps(control, registers, saved, mem, layout, lists, stop, budget)
         }
     }
 }

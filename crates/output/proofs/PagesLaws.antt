@@ -5,6 +5,7 @@ use Rattle.base.specs.Limits.{most_budget}
 use Rattle.base.specs.FirstFailure.{first_failure}
 use Rattle.base.specs.Verdict.{verdict, unrefused}
 use Rattle.base.proofs.Tests.{when_true}
+use Rattle.definition.specs.declared.stop_address.StopAddress.TheVariants.{Nowhere}
 use Rattle.definition.specs.Setting.{Setting}
 use Rattle.definition.specs.State.{World}
 use Rattle.definition.specs.Run.{Going, goes, stops, ending, world_after, step_of, run_from}
@@ -25,15 +26,15 @@ use Rattle.output.specs.Laws.{pages_text, Roomy, none, more, PagesMakeWhole, Pag
 module _ (S : Setting) where
   -- a run keeps what its tests ask for
   ready_step : (n k : ℕ) (w : World) → ReadyToRun S w
-      → (ReadyToRun S (world_after (step_of S w)) → ReadyToRun S (world_at (run_from S (n + 1) k (world_after (step_of S w)))))
-      → (g : Going) → ending w.state ≡ g → ReadyToRun S (world_at (run_from S n (suc k) w))
+      → (ReadyToRun S (world_after (step_of S w)) → ReadyToRun S (world_at (run_from S Nowhere (n + 1) k (world_after (step_of S w)))))
+      → (g : Going) → ending Nowhere w.state ≡ g → ReadyToRun S (world_at (run_from S Nowhere n (suc k) w))
   ready_step n k w r h goes e = rw (lands S n k w e) (h (ready_kept S w r))
   ready_step n k w r h (stops x) e = rw (stopped S n k w x e) r
 
-  ready_run : (n k : ℕ) (w : World) → ReadyToRun S w → ReadyToRun S (world_at (run_from S n k w))
+  ready_run : (n k : ℕ) (w : World) → ReadyToRun S w → ReadyToRun S (world_at (run_from S Nowhere n k w))
   ready_run n zero w r = rw (← stands_still S n w) r
   ready_run n (suc k) w r =
-      ready_step n k w r (ready_run (n + 1) k (world_after (step_of S w))) (ending w.state) refl
+      ready_step n k w r (ready_run (n + 1) k (world_after (step_of S w))) (ending Nowhere w.state) refl
 
   -- the tests of a transcript, apart and together
   tests_apart : (budget : ℕ) (w : World) → verdict (transcript_tests S budget w) ≡ unrefused → ReadyToRun S w × (leb budget most_budget ≡ true)

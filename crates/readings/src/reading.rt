@@ -4,6 +4,7 @@ use base::limits::{MEMORY_BYTES, MOST_STAMPS};
 use base::refusal::SheetRefusal;
 use clock::trace::Trace;
 use console::print;
+use definition::stop_address::StopAddress;
 use loader::load::{load_memory, load_stamps, load_trace};
 use machine::calls::Machine;
 use sheet::reader::{Setup, read_sheet};
@@ -38,7 +39,14 @@ fn run_line(out: &mut [u8], setup: Setup, room: &mut Room) -> usize {
         words: trace_words,
     };
     let started = Machine::start(&room.mem).machine;
-    let ran = started.run(&mut room.mem, setup.layout, stamps, trace, setup.budget);
+    let ran = started.run(
+        &mut room.mem,
+        setup.layout,
+        stamps,
+        trace,
+        StopAddress::Nowhere,
+        setup.budget,
+    );
     match ran.answer {
         Ok(Stopped { end, steps }) => end_line(out, end, steps, ran.machine.0.time.clock),
         Err(refusal) => refusal_line(out, SheetRefusal::new(refusal, 0)),

@@ -58,7 +58,7 @@ module _ (S : Setting) where
   module _ (room n budget : ℕ) (w : World) (i : line_room ≤ room) where
     course_page : (left : ℕ) → left ≡ budget - n → page_from S room n left w
         ≡ by_course n w (further_from room n budget w) (course w.state.halted w.state.time.clock n budget)
-    unfolding page_from ending course
+    unfolding page_from ending course when◌then◌else◌
     course_page zero e =
         let t : leb budget n ≡ true = le-leb budget n (omega arith) in
         when_false _ _ _ (le-ltb room line_room i)

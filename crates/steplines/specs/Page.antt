@@ -1,6 +1,7 @@
 -- The lines of a run's steps and of its end that one call writes: as many as there is room for.
 use Rattle.std.specs.Prelude.{ℕ, zero, suc, ◌+◌, ◌-◌, List, [], ◌++◌, ltb, length}
 use Rattle.base.specs.Test.{when◌then◌else◌}
+use Rattle.definition.specs.declared.stop_address.StopAddress.TheVariants.{Nowhere}
 use Rattle.definition.specs.Setting.{Setting}
 use Rattle.answers.specs.declared.answer.End.{End}
 use Rattle.answers.specs.declared.answer.End.TheVariants.{Spent}
@@ -47,8 +48,8 @@ end_or n w further (stops e) = end_page n w e
 module _ (S : Setting) where
   -- lines as long as there is room for one; a step is made only where its line is written
   unfoldable pub page_from : ℕ → ℕ → ℕ → World → Page
-  page_from room n zero w = when ltb room line_room then empty_page n w Steps else end_or n w (end_page n w Spent) (ending w.state)
+  page_from room n zero w = when ltb room line_room then empty_page n w Steps else end_or n w (end_page n w Spent) (ending Nowhere w.state)
   page_from room n (suc left) w =
       let line = line_of (n + 1) (step_of S w) in
       let further = page_from (room - length line) (n + 1) left (world_after (step_of S w)) in
-      when ltb room line_room then empty_page n w Steps else end_or n w (behind line further) (ending w.state)
+      when ltb room line_room then empty_page n w Steps else end_or n w (behind line further) (ending Nowhere w.state)

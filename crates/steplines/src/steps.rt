@@ -17,7 +17,8 @@ use answers::answer::{End, Outcome};
 use base::limits::LAST_CLOCK;
 use clock::lists::RequestLists;
 use clock::time::Requests;
-use fast::steps::fast_steps;
+use definition::stop_address::StopAddress;
+use fast::steps::{fast_steps, stop_pc_of};
 use inplace::in_place::{after_fast, fast_until, put_back};
 use layout::sections::Layout;
 use step::step::{is_held, take_step};
@@ -37,7 +38,8 @@ pub struct StepsWritten {
     pub remaining: Remaining,
 }
 
-// The end of a run, where it has come to one: the ends in their order. The loop of a run has them as its breaks, the form that document 01 asks for.
+// The end of a run without a stop address, where it has come to one: the ends in their order. The loop of a run has them as its breaks, the form that
+// document 01 asks for.
 #[tactic(auto, using(base::proofs::Tests::choices, std::proofs::lemmas::Bool::Decides::nat_tests), unfolding(crate::specs::internal::Course::course))]
 fn course_of(halted: bool, clock: u64, steps: u64, budget: u64) -> Option<End>
     ensures { result ≡ course halted clock steps budget }
@@ -128,6 +130,7 @@ fn line_step(
         layout,
         until,
         1,
+        stop_pc_of(StopAddress::Nowhere),
     );
     if burst.steps > 0 {
         return Answered {

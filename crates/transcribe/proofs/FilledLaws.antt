@@ -7,6 +7,7 @@ use Rattle.base.specs.declared.refusal.SheetRefusal.{SheetRefusal}
 use Rattle.base.specs.FirstFailure.{first_failure}
 use Rattle.base.specs.Verdict.{verdict, unrefused}
 use Rattle.base.proofs.Tests.{when_true, when_false}
+use Rattle.definition.specs.declared.stop_address.StopAddress.TheVariants.{Nowhere}
 use Rattle.definition.specs.Setting.{Setting}
 use Rattle.definition.specs.declared.state.State.{State}
 use Rattle.definition.specs.State.{World, world}
@@ -183,7 +184,7 @@ module _ (S : Setting) (t : Transcript) (mem : List ℕ) where
   -- what is still to be written behind a page, and where the run is
   pub page_promised : (room : ℕ) (p : Page) → PageIs S room t.steps (t.budget - t.steps) (world_of t mem) t.remaining p
       → (text_left S t mem ≡ p.text ++ text_left S (transcript_after t p) p.world.memory)
-      × (p.world ≡ world_at (run S (p.steps - t.steps) (world_of t mem)))
+      × (p.world ≡ world_at (run S Nowhere (p.steps - t.steps) (world_of t mem)))
   unfolding run
   page_promised room p q =
       let c = q.count in
@@ -191,13 +192,13 @@ module _ (S : Setting) (t : Transcript) (mem : List ℕ) where
       let left : q.rest ≡ t.budget - p.steps = omega arith in
       let made : q.made ≡ p.steps - t.steps = omega arith in (
         q.says ∙ ap (λ (z : ℕ). p.text ++ remaining_text S p.steps z p.world p.remaining) left,
-        q.stands ∙ world_counted S t.steps 0 q.made (world_of t mem) ∙ ap (λ (z : ℕ). world_at (run_from S 0 z (world_of t mem))) made,
+        q.stands ∙ world_counted S t.steps 0 q.made (world_of t mem) ∙ ap (λ (z : ℕ). world_at (run_from S Nowhere 0 z (world_of t mem))) made,
       )
 
   -- by the verdict
   by_verdict : (room : ℕ) (v : Result (Unit {0}) Refusal)
       → (text_left S t mem ≡ (page_by S room t mem v).text ++ text_left S (transcript_after t (page_by S room t mem v)) (page_by S room t mem v).world.memory)
-      × ((page_by S room t mem v).world ≡ world_at (run S ((page_by S room t mem v).steps - t.steps) (world_of t mem)))
+      × ((page_by S room t mem v).world ≡ world_at (run S Nowhere ((page_by S room t mem v).steps - t.steps) (world_of t mem)))
   by_verdict room (Ok _) = page_promised room _ (page_of_is S room t.steps (t.budget - t.steps) (world_of t mem) t.remaining)
   by_verdict room (Err f) =
       page_promised 0 _ (still S 0 t.steps (t.budget - t.steps) (world_of t mem) t.remaining (λ i j. absurd (omega arith)))
@@ -220,7 +221,7 @@ module _ (S : Setting) (t : Transcript) (mem : List ℕ) where
             ∙ ap (λ (z : Transcript). p.text ++ text_left S z p.world.memory) (sym f.transcript)
             ∙ ap (λ (z : List ℕ). p.text ++ text_left S r.transcript z) (sym f.memory);
         run_so_far = ap (λ (z : Transcript). world_of z mem_then) f.transcript ∙ ap (λ (z : List ℕ). world p.world.state z) f.memory
-            ∙ b.1 ∙ ap (λ (z : Transcript). world_at (run S (z.steps - t.steps) (world_of t mem))) (sym f.transcript);
+            ∙ b.1 ∙ ap (λ (z : Transcript). world_at (run S Nowhere (z.steps - t.steps) (world_of t mem))) (sym f.transcript);
       }
 
   -- by what remains

@@ -2,6 +2,7 @@
 use Rattle.std.proofs.Common.{ℕ, zero, suc, ◌+◌, ◌-◌, ◌≤◌, ◌<◌, true, ◌≡◌, refl, sym, ◌∙◌, ap, List, [], ◌∷◌, ◌++◌, append_assoc, append-nil, arith, ltb, length, ltb-true}
 use Rattle.base.proofs.Tests.{choose}
 use Rattle.base.specs.declared.refusal.SheetRefusal.{SheetRefusal}
+use Rattle.definition.specs.declared.stop_address.StopAddress.TheVariants.{Nowhere}
 use Rattle.definition.specs.Setting.{Setting}
 use Rattle.answers.specs.declared.answer.End.{End}
 use Rattle.answers.specs.declared.answer.End.TheVariants.{Spent}
@@ -26,16 +27,16 @@ module _ (S : Setting) where
     pub count : p.steps ≡ n + made
     pub parts : left ≡ made + rest
     pub says : remaining_text S n left w remaining ≡ p.text ++ remaining_text S p.steps rest p.world p.remaining
-    pub stands : p.world ≡ world_at (run_from S n made w)
+    pub stands : p.world ≡ world_at (run_from S Nowhere n made w)
     pub most : lines_left rest p.remaining ≤ lines_left left remaining
     pub fewer : line_room ≤ room → 1 ≤ lines_left left remaining → lines_left rest p.remaining < lines_left left remaining
 
   -- a run of no steps stands where it is
-  pub stands_still : (n : ℕ) (w : World) → w ≡ world_at (run_from S n 0 w)
+  pub stands_still : (n : ℕ) (w : World) → w ≡ world_at (run_from S Nowhere n 0 w)
   unfolding run_from
-  stands_still n w = go (ending w.state)
+  stands_still n w = go (ending Nowhere w.state)
     where
-      go : (g : Going) → w ≡ world_at (stop_or S n w (record { state = w.state; memory = w.memory; end = Spent; steps = n }) g)
+      go : (g : Going) → w ≡ world_at (stop_or n w (record { state = w.state; memory = w.memory; end = Spent; steps = n }) g)
       go goes = refl
       go (stops e) = refl
 
@@ -71,39 +72,39 @@ module _ (S : Setting) where
 
   module _ (n left : ℕ) (w : World) where
     -- what is left to say, by whether the run goes on
-    text_goes : ending w.state ≡ goes
+    text_goes : ending Nowhere w.state ≡ goes
         → steps_text S n (suc left) w ≡ line_of (n + 1) (step_of S w) ++ steps_text S (n + 1) left (world_after (step_of S w))
     unfolding steps_text step_lines moves run_from
     text_goes g =
-        ap (λ (z : Going). step_lines n (none_or S (record { before = w; after = step_of S w } ∷ moves S left (world_after (step_of S w))) z)
-        ++ stop_line (stop_or S n w (run_from S (n + 1) left (world_after (step_of S w))) z)) g
-        ∙ append_assoc (line_of (n + 1) (step_of S w)) (step_lines (n + 1) (moves S left (world_after (step_of S w))))
-        (stop_line (run_from S (n + 1) left (world_after (step_of S w))))
+        ap (λ (z : Going). step_lines n (none_or (record { before = w; after = step_of S w } ∷ moves S Nowhere left (world_after (step_of S w))) z)
+        ++ stop_line (stop_or n w (run_from S Nowhere (n + 1) left (world_after (step_of S w))) z)) g
+        ∙ append_assoc (line_of (n + 1) (step_of S w)) (step_lines (n + 1) (moves S Nowhere left (world_after (step_of S w))))
+        (stop_line (run_from S Nowhere (n + 1) left (world_after (step_of S w))))
 
-    text_spent : ending w.state ≡ goes → steps_text S n 0 w ≡ end_line Spent n w.state.time.clock
+    text_spent : ending Nowhere w.state ≡ goes → steps_text S n 0 w ≡ end_line Spent n w.state.time.clock
     unfolding steps_text step_lines moves run_from
-    text_spent g = ap (λ (z : Going). stop_line (stop_or S n w (record { state = w.state; memory = w.memory; end = Spent; steps = n }) z)) g
+    text_spent g = ap (λ (z : Going). stop_line (stop_or n w (record { state = w.state; memory = w.memory; end = Spent; steps = n }) z)) g
 
     -- a step of the run
-    pub lands : ending w.state ≡ goes → run_from S n (suc left) w ≡ run_from S (n + 1) left (world_after (step_of S w))
+    pub lands : ending Nowhere w.state ≡ goes → run_from S Nowhere n (suc left) w ≡ run_from S Nowhere (n + 1) left (world_after (step_of S w))
     unfolding run_from
-    lands g = ap (stop_or S n w (run_from S (n + 1) left (world_after (step_of S w)))) g
+    lands g = ap (stop_or n w (run_from S Nowhere (n + 1) left (world_after (step_of S w)))) g
 
-  text_stops : (n left : ℕ) (w : World) (e : End) → ending w.state ≡ stops e → steps_text S n left w ≡ end_line e n w.state.time.clock
+  text_stops : (n left : ℕ) (w : World) (e : End) → ending Nowhere w.state ≡ stops e → steps_text S n left w ≡ end_line e n w.state.time.clock
   unfolding steps_text step_lines moves run_from
-  text_stops n zero w e g = ap (λ (z : Going). stop_line (stop_or S n w (record { state = w.state; memory = w.memory; end = Spent; steps = n }) z)) g
+  text_stops n zero w e g = ap (λ (z : Going). stop_line (stop_or n w (record { state = w.state; memory = w.memory; end = Spent; steps = n }) z)) g
   text_stops n (suc left) w e g =
-      ap (λ (z : Going). step_lines n (none_or S (record { before = w; after = step_of S w } ∷ moves S left (world_after (step_of S w))) z)
-      ++ stop_line (stop_or S n w (run_from S (n + 1) left (world_after (step_of S w))) z)) g
+      ap (λ (z : Going). step_lines n (none_or (record { before = w; after = step_of S w } ∷ moves S Nowhere left (world_after (step_of S w))) z)
+      ++ stop_line (stop_or n w (run_from S Nowhere (n + 1) left (world_after (step_of S w))) z)) g
 
   -- where a run stops at once
-  pub stopped : (n k : ℕ) (w : World) (e : End) → ending w.state ≡ stops e
-      → run_from S n (suc k) w ≡ record { state = w.state; memory = w.memory; end = e; steps = n }
+  pub stopped : (n k : ℕ) (w : World) (e : End) → ending Nowhere w.state ≡ stops e
+      → run_from S Nowhere n (suc k) w ≡ record { state = w.state; memory = w.memory; end = e; steps = n }
   unfolding run_from
-  stopped n k w e g = ap (stop_or S n w (run_from S (n + 1) k (world_after (step_of S w)))) g
+  stopped n k w e g = ap (stop_or n w (run_from S Nowhere (n + 1) k (world_after (step_of S w)))) g
 
   -- a line of a step, and what follows it
-  goes_on : (room further n left : ℕ) (w : World) (p : Page) → ending w.state ≡ goes
+  goes_on : (room further n left : ℕ) (w : World) (p : Page) → ending Nowhere w.state ≡ goes
       → PageIs further (n + 1) left (world_after (step_of S w)) Steps p
       → PageIs room n (suc left) w Steps (behind (line_of (n + 1) (step_of S w)) p)
   goes_on room further n left w p g q =
@@ -125,7 +126,7 @@ module _ (S : Setting) where
   -- the end's line, or a step's and what follows it
   line_or_end : (room n left : ℕ) (w : World) (p : Page)
       → PageIs (room - length (line_of (n + 1) (step_of S w))) (n + 1) left (world_after (step_of S w)) Steps p
-      → (g : Going) → ending w.state ≡ g → PageIs room n (suc left) w Steps (end_or n w (behind (line_of (n + 1) (step_of S w)) p) g)
+      → (g : Going) → ending Nowhere w.state ≡ g → PageIs room n (suc left) w Steps (end_or n w (behind (line_of (n + 1) (step_of S w)) p) g)
   line_or_end room n left w p q goes e = goes_on room (room - length (line_of (n + 1) (step_of S w))) n left w p e q
   line_or_end room n left w p q (stops x) e = ends room n (suc left) w x (text_stops n (suc left) w x e)
 
@@ -133,14 +134,14 @@ module _ (S : Setting) where
   pub page_from_is : (room n left : ℕ) (w : World) → PageIs room n left w Steps (page_from S room n left w)
   unfolding page_from
   page_from_is room n zero w =
-      choose (PageIs room n zero w Steps) (ltb room line_room) (λ h. still room n zero w Steps (λ i j. full room h i)) (λ h. go (ending w.state) refl)
+      choose (PageIs room n zero w Steps) (ltb room line_room) (λ h. still room n zero w Steps (λ i j. full room h i)) (λ h. go (ending Nowhere w.state) refl)
     where
-      go : (g : Going) → ending w.state ≡ g → PageIs room n zero w Steps (end_or n w (end_page n w Spent) g)
+      go : (g : Going) → ending Nowhere w.state ≡ g → PageIs room n zero w Steps (end_or n w (end_page n w Spent) g)
       go goes e = ends room n zero w Spent (text_spent n zero w e)
       go (stops x) e = ends room n zero w x (text_stops n zero w x e)
   page_from_is room n (suc left) w =
       choose (PageIs room n (suc left) w Steps) (ltb room line_room) (λ h. still room n (suc left) w Steps (λ i j. full room h i))
-      (λ h. line_or_end room n left w _ (page_from_is (room - length (line_of (n + 1) (step_of S w))) (n + 1) left (world_after (step_of S w))) (ending w.state) refl)
+      (λ h. line_or_end room n left w _ (page_from_is (room - length (line_of (n + 1) (step_of S w))) (n + 1) left (world_after (step_of S w))) (ending Nowhere w.state) refl)
 
   -- the header, and what follows it
   with_header : (room further n left : ℕ) (w : World) (p : Page) → PageIs further n left w Steps p → PageIs room n left w Header (behind header_line p)
@@ -189,12 +190,12 @@ module _ (S : Setting) where
 
   -- where a run is does not hang on the number that its steps are counted from
   counted_step : (n m k : ℕ) (w : World)
-      → world_at (run_from S (n + 1) k (world_after (step_of S w))) ≡ world_at (run_from S (m + 1) k (world_after (step_of S w)))
-      → (g : Going) → ending w.state ≡ g → world_at (run_from S n (suc k) w) ≡ world_at (run_from S m (suc k) w)
+      → world_at (run_from S Nowhere (n + 1) k (world_after (step_of S w))) ≡ world_at (run_from S Nowhere (m + 1) k (world_after (step_of S w)))
+      → (g : Going) → ending Nowhere w.state ≡ g → world_at (run_from S Nowhere n (suc k) w) ≡ world_at (run_from S Nowhere m (suc k) w)
   counted_step n m k w h goes e = ap world_at (lands n k w e) ∙ h ∙ sym (ap world_at (lands m k w e))
   counted_step n m k w h (stops x) e = ap world_at (stopped n k w x e) ∙ sym (ap world_at (stopped m k w x e))
 
-  pub world_counted : (n m k : ℕ) (w : World) → world_at (run_from S n k w) ≡ world_at (run_from S m k w)
+  pub world_counted : (n m k : ℕ) (w : World) → world_at (run_from S Nowhere n k w) ≡ world_at (run_from S Nowhere m k w)
   world_counted n m zero w = sym (stands_still n w) ∙ stands_still m w
   world_counted n m (suc k) w =
-      counted_step n m k w (world_counted (n + 1) (m + 1) k (world_after (step_of S w))) (ending w.state) refl
+      counted_step n m k w (world_counted (n + 1) (m + 1) k (world_after (step_of S w))) (ending Nowhere w.state) refl

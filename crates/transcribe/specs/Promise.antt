@@ -4,6 +4,7 @@ use Rattle.std.proofs.lemmas.List.Edits.{sets}
 use Rattle.base.specs.declared.refusal.Refusal.{Refusal}
 use Rattle.base.specs.FirstFailure.{Test}
 use Rattle.base.specs.Verdict.{verdict}
+use Rattle.definition.specs.declared.stop_address.StopAddress.TheVariants.{Nowhere}
 use Rattle.definition.specs.Setting.{Setting}
 use Rattle.definition.specs.State.{World, world}
 use Rattle.definition.specs.Run.{run}
@@ -59,4 +60,4 @@ module _ (S : Setting) where
     pub transcript : r.transcript ≡ transcript_after t (page_call (length entry) t mem)
     pub memory : mem_then ≡ (page_call (length entry) t mem).world.memory
     pub next : text_left t mem ≡ (page_call (length entry) t mem).text ++ text_left r.transcript mem_then
-    pub run_so_far : world_of r.transcript mem_then ≡ world_at (run S (r.transcript.steps - t.steps) (world_of t mem))
+    pub run_so_far : world_of r.transcript mem_then ≡ world_at (run S Nowhere (r.transcript.steps - t.steps) (world_of t mem))

@@ -1,6 +1,7 @@
 -- A run's transcript, and the part of it that one call writes.
 use Rattle.std.specs.Prelude.{ℕ, ◌+◌, ◌-◌, List, [], ◌∷◌, ◌++◌, ltb, length}
 use Rattle.base.specs.Test.{when◌then◌else◌}
+use Rattle.definition.specs.declared.stop_address.StopAddress.TheVariants.{Nowhere}
 use Rattle.definition.specs.Setting.{Setting}
 use Rattle.definition.specs.State.{World}
 use Rattle.definition.specs.Run.{Stop, Move, run_from, moves}
@@ -23,7 +24,7 @@ stop_line s = end_line s.end s.steps s.state.time.clock
 module _ (S : Setting) where
   -- of a run that has made n steps and has some left: a line for each further step, and the end's line
   unfoldable pub steps_text : ℕ → ℕ → World → List ℕ
-  steps_text n left w = step_lines n (moves S left w) ++ stop_line (run_from S n left w)
+  steps_text n left w = step_lines n (moves S Nowhere left w) ++ stop_line (run_from S Nowhere n left w)
 
   -- what is still to be written
   abbrev pub remaining_text : ℕ → ℕ → World → Remaining → List ℕ

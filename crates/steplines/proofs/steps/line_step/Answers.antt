@@ -10,7 +10,7 @@ returns-then-burst-gt0 c early here =
     let S = setting_with a.layout a.requests in
     let b = c.fast_steps-burst in
     let some = c.if-burst-gt0.true in
-    let q = fast_ran S _ _ _ _ a.control _ _ b.result (c.fast_until-until.ensures a.layout here) c.is_held.ensures b.ensures.ran in
-    sym (ran_one S _ _ _
-    (burst_some S a.control _ _ b.result _ _ q some a.saved.now _ c.after_fast.ensures.1 _ c.after_fast.ensures.0)
+    let q = fast_ran S _ _ _ _ a.control _ _ _ b.result (c.fast_until-until.ensures a.layout here) c.is_held.ensures b.ensures.ran in
+    sym (ran_one S _ _ _ _
+    (burst_some S _ a.control _ _ b.result _ _ q some a.saved.now _ c.after_fast.ensures.1 _ c.after_fast.ensures.0)
     some b.ensures.within)
