@@ -4,6 +4,7 @@ use answers::answer::{Outcome, Stopped};
 use base::refusal::Refusal;
 use clock::trace::Trace;
 use console::print;
+use definition::stop_address::StopAddress;
 use machine::calls::Machine;
 use script::world::World;
 use std::io;
@@ -85,8 +86,8 @@ pub fn step(out: &mut impl Write, w: &mut World) -> io::Result<()> {
     show::state(out, w)
 }
 
-// Run with a budget.
-pub fn run(out: &mut impl Write, w: &mut World, budget: u64) -> io::Result<()> {
+// Run with a stop address or none, and a budget.
+pub fn run(out: &mut impl Write, w: &mut World, stop: StopAddress, budget: u64) -> io::Result<()> {
     let Some(mem) = w.memory.get_mut(..w.bytes) else {
         return print::unknown(out);
     };
@@ -97,7 +98,7 @@ pub fn run(out: &mut impl Write, w: &mut World, budget: u64) -> io::Result<()> {
     let Some(trace) = trace_of(w.trace_stamps.numbers(), words.get(..w.trace_words.len())) else {
         return print::unknown(out);
     };
-    let ran = Machine(w.state).run(mem, w.layout, stamps, trace, budget);
+    let ran = Machine(w.state).run(mem, w.layout, stamps, trace, stop, budget);
     w.state = ran.machine.0;
     show_run(out, ran.answer)?;
     show::state(out, w)

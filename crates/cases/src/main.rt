@@ -24,9 +24,10 @@
 // S            start, printed; where it is refused the machine stays as it was
 // T            step, printed
 // G n          run with budget n, printed
+// G n a        run with budget n and stop address a, printed
 //
 // A printed line has the letter, the answer (E and a number for a refusal), the state, and two sums of all 65,538 bytes. What
-// cannot be read is answered by a question mark, and the script has nothing such.
+// cannot be read, or has no room in its list, is answered by a question mark.
 #![tactic(auto)]
 
 mod call;

@@ -35,7 +35,7 @@ fn obey(out: &mut impl Write, w: &mut World, command: Command<'_>) -> io::Result
         Command::Overwrite(part) => w.overwrite(part),
         Command::Start => call::start(out, w)?,
         Command::Step => call::step(out, w)?,
-        Command::Run { budget } => call::run(out, w, budget)?,
+        Command::Run { stop, budget } => call::run(out, w, stop, budget)?,
     }
     Ok(())
 }

@@ -1,9 +1,11 @@
-// Start, step and run. Each answers 0, or the number of the refusal, which leaves all that is lent as it came.
+// Start, step, run and run to an address. Each answers 0, or the number of the refusal, which leaves all that is lent as it came.
 ghost use Rattle.definition.specs.Setting.{trace_of};
+ghost use Rattle.definition.specs.declared.stop_address.StopAddress.TheVariants.{Nowhere as NOWHERE, At as AT};
 ghost use Rattle.lentstate.specs.State.{numbers};
 ghost use Rattle.lentcalls.specs.Calls.{StartReturns, StepReturns, RunReturns};
 
 use clock::trace::Trace;
+use definition::stop_address::StopAddress;
 use lentcalls::calls::{run_lent, start_lent, step_lent};
 
 // The start state of a memory.
@@ -46,7 +48,7 @@ pub extern "C" fn enclave_step(
     )
 }
 
-// Many steps: why it stopped, as the bench's letter, and the number of steps.
+// Many steps, with no stop address: why it stopped, by its letter, and the number of steps.
 #[unsafe(no_mangle)]
 pub extern "C" fn enclave_run(
     registers: &mut [u16; 16],
@@ -62,13 +64,43 @@ pub extern "C" fn enclave_run(
     end: &mut u8,
     steps: &mut u64,
 ) -> u8
-    ensures { RunReturns mem.old layout.now stamps.now (trace_of trace_stamps.now trace_words.now) budget (numbers registers.old saved.old control.old time.old) (numbers registers.new saved.new control.new time.new) mem.new end.old end.new steps.old steps.new result }
+    ensures { RunReturns mem.old layout.now stamps.now (trace_of trace_stamps.now trace_words.now) NOWHERE budget (numbers registers.old saved.old control.old time.old) (numbers registers.new saved.new control.new time.new) mem.new end.old end.new steps.old steps.new result }
 {
     let trace = Trace {
         stamps: trace_stamps,
         words: trace_words,
     };
+    let nowhere = StopAddress::Nowhere;
     run_lent(
-        registers, saved, control, time, mem, layout, stamps, trace, budget, end, steps,
+        registers, saved, control, time, mem, layout, stamps, trace, nowhere, budget, end, steps,
+    )
+}
+
+// Many steps up to a stop address: why it stopped, by its letter, and the number of steps.
+#[unsafe(no_mangle)]
+pub extern "C" fn enclave_run_to(
+    registers: &mut [u16; 16],
+    saved: &mut [u16; 16],
+    control: &mut [u16; 5],
+    time: &mut [u64; 3],
+    mem: &mut [u8],
+    layout: &[u16; 5],
+    stamps: &[u64],
+    trace_stamps: &[u64],
+    trace_words: &[u16],
+    stop: u16,
+    budget: u64,
+    end: &mut u8,
+    steps: &mut u64,
+) -> u8
+    ensures { RunReturns mem.old layout.now stamps.now (trace_of trace_stamps.now trace_words.now) (AT stop) budget (numbers registers.old saved.old control.old time.old) (numbers registers.new saved.new control.new time.new) mem.new end.old end.new steps.old steps.new result }
+{
+    let trace = Trace {
+        stamps: trace_stamps,
+        words: trace_words,
+    };
+    let stop = StopAddress::At(stop);
+    run_lent(
+        registers, saved, control, time, mem, layout, stamps, trace, stop, budget, end, steps,
     )
 }

@@ -4,6 +4,7 @@ use Rattle.answers.specs.declared.answer.Stopped.{Stopped}
 use Rattle.answers.specs.declared.answer.Outcome.{Outcome}
 use Rattle.base.specs.declared.refusal.Refusal.{Refusal}
 use Rattle.definition.specs.Setting.{Trace, setting_of}
+use Rattle.definition.specs.declared.stop_address.StopAddress.{StopAddress}
 use Rattle.definition.specs.State.{world}
 use Rattle.definition.specs.Answers.{start_refusal, step_refusal, run_refusal, step_kind, step_cause, run_end, run_steps}
 use Rattle.definition.specs.Calls.{Called, start_call, step_call, run_call}
@@ -15,10 +16,10 @@ use Rattle.base.specs.Kept.{unless_refused}
 unfoldable pub step_on : Numbers → List ℕ → List ℕ → List ℕ → Trace → Called (Result Outcome Refusal)
 step_on machine memory layout stamps trace = step_call (setting_of (layout_of layout) stamps trace) (world (machine_of machine) memory)
 
--- the run call of a caller's machine, memory, layout, stamps, trace and budget
-unfoldable pub run_on : Numbers → List ℕ → List ℕ → List ℕ → Trace → ℕ → Called (Result Stopped Refusal)
-run_on machine memory layout stamps trace budget =
-    run_call (setting_of (layout_of layout) stamps trace) budget (world (machine_of machine) memory)
+-- the run call of a caller's machine, memory, layout, stamps, trace, stop address and budget
+unfoldable pub run_on : Numbers → List ℕ → List ℕ → List ℕ → Trace → StopAddress → ℕ → Called (Result Stopped Refusal)
+run_on machine memory layout stamps trace stop budget =
+    run_call (setting_of (layout_of layout) stamps trace) stop budget (world (machine_of machine) memory)
 
 -- what start promises of the number that it answers and of the machine's numbers after it
 pub record StartReturns (mem : List ℕ) (before after : Numbers) (answered : ℕ) : Type 0 where
@@ -41,6 +42,6 @@ StepReturns mem layout stamps trace before after bytes kind kind_then cause caus
     CallReturns step_refusal step_kind step_cause (step_on before mem layout stamps trace) before after bytes kind kind_then cause cause_then answered
 
 -- what run promises: the two numbers are the end's letter and how many steps were made
-abbrev pub RunReturns : List ℕ → List ℕ → List ℕ → Trace → ℕ → Numbers → Numbers → List ℕ → ℕ → ℕ → ℕ → ℕ → ℕ → Type 0
-RunReturns mem layout stamps trace budget before after bytes end end_then steps steps_then answered =
-    CallReturns run_refusal run_end run_steps (run_on before mem layout stamps trace budget) before after bytes end end_then steps steps_then answered
+abbrev pub RunReturns : List ℕ → List ℕ → List ℕ → Trace → StopAddress → ℕ → Numbers → Numbers → List ℕ → ℕ → ℕ → ℕ → ℕ → ℕ → Type 0
+RunReturns mem layout stamps trace stop budget before after bytes end end_then steps steps_then answered =
+    CallReturns run_refusal run_end run_steps (run_on before mem layout stamps trace stop budget) before after bytes end end_then steps steps_then answered

@@ -8,6 +8,7 @@ ghost use Rattle.lentcalls.specs.Calls.{StartReturns, StepReturns, RunReturns};
 
 use answers::answer::Outcome;
 use clock::trace::Trace;
+use definition::stop_address::StopAddress;
 use layout::sections::Layout;
 use lentstate::state::{control_of, hand_back, hand_control};
 use machine::calls::{Machine, run_in_place, step_in_place};
@@ -80,7 +81,7 @@ pub fn step_lent(
     }
 }
 
-// Many steps: why it stopped, as the bench's letter, and the number of steps.
+// Many steps: why it stopped, by its letter, and the number of steps.
 #[tactic(auto, using(base::proofs::Tests::choices, base::proofs::Refusals::number_not_zero, lentstate::proofs::LentLaws::lent_machine, lentstate::proofs::LentLaws::lent_numbers), unfolding(base::specs::Kept::unless_refused, crate::specs::Calls::run_on))]
 pub fn run_lent(
     registers: &mut [u16; 16],
@@ -91,11 +92,12 @@ pub fn run_lent(
     layout: &[u16; 5],
     stamps: &[u64],
     trace: Trace<'_>,
+    stop: StopAddress,
     budget: u64,
     end: &mut u8,
     steps: &mut u64,
 ) -> u8
-    ensures { RunReturns mem.old layout.now stamps.now (lent_trace trace.entry) budget (numbers registers.old saved.old control.old time.old) (numbers registers.new saved.new control.new time.new) mem.new end.old end.new steps.old steps.new result }
+    ensures { RunReturns mem.old layout.now stamps.now (lent_trace trace.entry) stop budget (numbers registers.old saved.old control.old time.old) (numbers registers.new saved.new control.new time.new) mem.new end.old end.new steps.old steps.new result }
 {
     let rest = control_of(*control, *time);
     let ran = run_in_place(
@@ -106,6 +108,7 @@ pub fn run_lent(
         Layout::from(*layout),
         stamps,
         trace,
+        stop,
         budget,
     );
     match ran.answer {

@@ -2,6 +2,7 @@
 use crate::line::Line;
 use crate::world::WORLD_BYTES;
 use definition::state::SavedContext;
+use definition::stop_address::StopAddress;
 
 // A command. Of words, stamps and records, the numbers stay in the line.
 #[derive(Clone, Copy)]
@@ -21,7 +22,7 @@ pub enum Command<'a> {
     Overwrite(Part),
     Start,
     Step,
-    Run { budget: u64 },
+    Run { stop: StopAddress, budget: u64 },
 }
 
 // A row of numbers, `step` apart.
@@ -152,7 +153,14 @@ impl<'a> Command<'a> {
             (b'v', []) => Some(Command::NoTrace),
             (b'S', []) => Some(Command::Start),
             (b'T', []) => Some(Command::Step),
-            (b'G', &[budget]) => Some(Command::Run { budget }),
+            (b'G', &[budget]) => Some(Command::Run {
+                stop: StopAddress::Nowhere,
+                budget,
+            }),
+            (b'G', &[budget, address]) => Some(Command::Run {
+                stop: StopAddress::At(word(address)?),
+                budget,
+            }),
             _ => Some(Command::Overwrite(Part::parse(line)?)),
         }
     }
