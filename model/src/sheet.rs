@@ -1,7 +1,7 @@
 //! "Bench sheet": the sheet's reader and the transcript; with the T lines of
 //! document 02, request a.
 
-use crate::calls::MOST_STEPS;
+use crate::calls::{Stop, MOST_STEPS};
 use crate::memory::{write_word, Layout, MEMORY_BYTES};
 use crate::state::{Machine, PC, SR};
 use crate::time::{Lists, Trace, LAST_STAMP, MOST_STAMPS};
@@ -169,7 +169,8 @@ fn read_layout(fields: &[&[u8]]) -> Option<Layout> {
 }
 
 /// "A header line comes first. Fields: step from 1, kind, values after it."
-/// "The last line is the run's end (H, S spent, T clock), steps, clock."
+/// "The last line is the run's end (H, S spent, T clock), steps, clock." No
+/// sheet carries a stop address.
 fn transcript(sheet: Sheet) -> Vec<u8> {
     let Sheet {
         layout,
@@ -190,7 +191,7 @@ fn transcript(sheet: Sheet) -> Vec<u8> {
     let mut machine = Machine::start_state(&memory);
     let mut steps = 0;
     loop {
-        if let Some(end) = machine.end(steps, budget) {
+        if let Some(end) = machine.end(Stop::Never, steps, budget) {
             text += &format!("{}\t{}\t{}\n", end.letter(), steps, machine.clock);
             return text.into_bytes();
         }

@@ -1,5 +1,5 @@
 //! Tests. Expected values are worked out by hand from document 01, those of
-//! the ride trace from document 02, request a.
+//! the ride trace and the stop address from document 02, requests a and b.
 
 use crate::*;
 
@@ -245,7 +245,10 @@ fn settled_clock() {
     machine.clock = CLOCK_LIMIT + 1;
     let before = machine;
     assert_eq!(machine.step(&mut memory, &LAYOUT, &[], NO_TRACE), Err(6));
-    assert_eq!(machine.run(&mut memory, &LAYOUT, &[], NO_TRACE, 5), Err(6));
+    assert_eq!(
+        machine.run(&mut memory, &LAYOUT, &[], NO_TRACE, Stop::Never, 5),
+        Err(6)
+    );
     assert_eq!(machine, before);
     machine.clock = CLOCK_LIMIT;
     let mut other = machine;
@@ -255,7 +258,7 @@ fn settled_clock() {
     );
     assert_eq!(machine.clock, CLOCK_LIMIT + 2);
     assert_eq!(
-        other.run(&mut memory, &LAYOUT, &[], NO_TRACE, 5),
+        other.run(&mut memory, &LAYOUT, &[], NO_TRACE, Stop::Never, 5),
         Ok((End::Clock, 1))
     );
 }
@@ -785,11 +788,11 @@ fn halting() {
         Ok(Outcome::Halted)
     );
     assert_eq!(
-        machine.run(&mut memory, &LAYOUT, &[10], NO_TRACE, 0),
+        machine.run(&mut memory, &LAYOUT, &[10], NO_TRACE, Stop::Never, 0),
         Ok((End::Halted, 0))
     );
     assert_eq!(
-        machine.run(&mut memory, &LAYOUT, &[10], NO_TRACE, 7),
+        machine.run(&mut memory, &LAYOUT, &[10], NO_TRACE, Stop::Never, 7),
         Ok((End::Halted, 0))
     );
     assert_eq!(machine, before);
@@ -992,7 +995,10 @@ fn refusals_in_order() {
     let mut m = bad_frame;
     let mut both_refuse = |memory: &mut [u8], layout: &Layout, stamp: u64, number: u8| {
         let (stamps, late) = ([stamp], 1_000_001);
-        assert_eq!(m.run(memory, layout, &stamps, NO_TRACE, late), Err(number));
+        assert_eq!(
+            m.run(memory, layout, &stamps, NO_TRACE, Stop::Never, late),
+            Err(number)
+        );
         assert_eq!(m.step(memory, layout, &stamps, NO_TRACE), Err(number));
     };
     both_refuse(&mut short, &bad_layout, 0, 1);
@@ -1002,11 +1008,11 @@ fn refusals_in_order() {
     assert_eq!(m, bad_frame);
     let mut m = bad_clock;
     assert_eq!(
-        m.run(&mut memory, &LAYOUT, &[1], NO_TRACE, 1_000_001),
+        m.run(&mut memory, &LAYOUT, &[1], NO_TRACE, Stop::Never, 1_000_001),
         Err(5)
     );
     assert_eq!(
-        m.run(&mut memory, &LAYOUT, &[1], NO_TRACE, 1_000_000),
+        m.run(&mut memory, &LAYOUT, &[1], NO_TRACE, Stop::Never, 1_000_000),
         Err(6)
     );
     assert_eq!(m.step(&mut memory, &LAYOUT, &[1], NO_TRACE), Err(6));
@@ -1014,23 +1020,23 @@ fn refusals_in_order() {
     assert_eq!(m.step(&mut memory, &LAYOUT, &[1], NO_TRACE), Err(6));
     let mut m = good;
     assert_eq!(
-        m.run(&mut memory, &LAYOUT, &[1], NO_TRACE, 1_000_001),
+        m.run(&mut memory, &LAYOUT, &[1], NO_TRACE, Stop::Never, 1_000_001),
         Err(5)
     );
     assert_eq!(m, good);
     assert_eq!(memory, paper_memory());
     assert_eq!(
-        m.run(&mut memory, &LAYOUT, &[6], NO_TRACE, 1_000_000),
+        m.run(&mut memory, &LAYOUT, &[6], NO_TRACE, Stop::Never, 1_000_000),
         Ok((End::Halted, 7))
     );
     let mut m = good;
     assert_eq!(
-        m.run(&mut memory, &LAYOUT, &[6], NO_TRACE, 0),
+        m.run(&mut memory, &LAYOUT, &[6], NO_TRACE, Stop::Never, 0),
         Ok((End::Spent, 0))
     );
     assert_eq!(m, good);
     assert_eq!(
-        m.run(&mut memory, &LAYOUT, &[6], NO_TRACE, 3),
+        m.run(&mut memory, &LAYOUT, &[6], NO_TRACE, Stop::Never, 3),
         Ok((End::Spent, 3))
     );
 }
@@ -1205,7 +1211,7 @@ fn a_run_reads_the_record_of_each_step() {
         write_word(&mut memory, 0x4400 + 2 * place as u16, word);
     }
     let mut machine = Machine::start(&memory).unwrap();
-    let ran = machine.run(&mut memory, &LAYOUT, &[], ride, 9);
+    let ran = machine.run(&mut memory, &LAYOUT, &[], ride, Stop::Never, 9);
     assert_eq!(ran, Ok((End::Halted, 5)));
     assert_eq!(machine.registers[4..8], [0, 0x0A0A, 0x0A0A, 0x0C0C]);
     assert_eq!((machine.clock, machine.slot), (9, Some(2)));
@@ -1362,23 +1368,47 @@ fn refusal_10_stands_right_after_3() {
         assert_eq!(m.step(&mut memory, &LAYOUT, &[1], bad), Err(10));
         assert_eq!(m.step(&mut memory, &LAYOUT, &[1], RIDE), Err(4));
         let most = 1_000_001;
-        assert_eq!(m.run(&mut short, &bad_layout, &[0], bad, most), Err(1));
-        assert_eq!(m.run(&mut memory, &bad_layout, &[0], bad, most), Err(2));
-        assert_eq!(m.run(&mut memory, &LAYOUT, &[0], bad, most), Err(3));
-        assert_eq!(m.run(&mut memory, &LAYOUT, &[1], bad, most), Err(10));
-        assert_eq!(m.run(&mut memory, &LAYOUT, &[1], RIDE, most), Err(4));
+        assert_eq!(
+            m.run(&mut short, &bad_layout, &[0], bad, Stop::Never, most),
+            Err(1)
+        );
+        assert_eq!(
+            m.run(&mut memory, &bad_layout, &[0], bad, Stop::Never, most),
+            Err(2)
+        );
+        assert_eq!(
+            m.run(&mut memory, &LAYOUT, &[0], bad, Stop::Never, most),
+            Err(3)
+        );
+        assert_eq!(
+            m.run(&mut memory, &LAYOUT, &[1], bad, Stop::Never, most),
+            Err(10)
+        );
+        assert_eq!(
+            m.run(&mut memory, &LAYOUT, &[1], RIDE, Stop::Never, most),
+            Err(4)
+        );
         assert_eq!(m, before);
         // Before 5 and 6 too, and a halted machine is no way out.
         let mut m = good;
         m.halted = halted;
         m.clock = CLOCK_LIMIT + 1;
         assert_eq!(m.step(&mut memory, &LAYOUT, &[], bad), Err(10));
-        assert_eq!(m.run(&mut memory, &LAYOUT, &[], bad, most), Err(10));
-        assert_eq!(m.run(&mut memory, &LAYOUT, &[], RIDE, most), Err(5));
+        assert_eq!(
+            m.run(&mut memory, &LAYOUT, &[], bad, Stop::Never, most),
+            Err(10)
+        );
+        assert_eq!(
+            m.run(&mut memory, &LAYOUT, &[], RIDE, Stop::Never, most),
+            Err(5)
+        );
         assert_eq!(m.step(&mut memory, &LAYOUT, &[], RIDE), Err(6));
         m.clock = 0;
         assert_eq!(m.step(&mut memory, &LAYOUT, &[], bad), Err(10));
-        assert_eq!(m.run(&mut memory, &LAYOUT, &[], bad, 0), Err(10));
+        assert_eq!(
+            m.run(&mut memory, &LAYOUT, &[], bad, Stop::Never, 0),
+            Err(10)
+        );
     }
     assert_eq!(memory, paper_memory());
     // "Start takes the memory only": nothing else can be refused there.
@@ -1490,6 +1520,536 @@ fn a_sheets_trace_is_what_its_t_lines_say() {
          H 3 4",
     );
     assert_eq!(bench(&sheet(text)), expected);
+}
+
+// Document 02, request b: "Run to an address"
+
+/// Document 01's sheet at its start, and its memory.
+fn paper_start() -> (Machine, Vec<u8>) {
+    let memory = paper_memory();
+    (Machine::start(&memory).unwrap(), memory)
+}
+
+/// A run on document 01's layout without a trace.
+fn to(
+    machine: &mut Machine,
+    memory: &mut [u8],
+    stamps: &[u64],
+    stop: Stop,
+    budget: u64,
+) -> Result<(End, u64), u8> {
+    machine.run(memory, &LAYOUT, stamps, NO_TRACE, stop, budget)
+}
+
+#[test]
+fn the_papers_sheet_to_each_address() {
+    // The sheet's own lines: clock and pc after each step.
+    for (address, end, steps, clock, pc) in [
+        (0x4400, End::Address, 0, 0, 0x4400),
+        (0x4404, End::Address, 1, 2, 0x4404),
+        (0x8000, End::Address, 2, 4, 0x8000),
+        (0x8002, End::Address, 3, 5, 0x8002),
+        (0x4500, End::Address, 4, 18, 0x4500),
+        (0x8006, End::Address, 5, 24, 0x8006),
+        (0x4600, End::Address, 6, 26, 0x4600),
+        // It halts there: "halted" comes first.
+        (0x4602, End::Halted, 7, 27, 0x4602),
+        // Second words are no step's pc, and these are no one's.
+        (0x4402, End::Halted, 7, 27, 0x4602),
+        (0x4406, End::Halted, 7, 27, 0x4602),
+        (0x8004, End::Halted, 7, 27, 0x4602),
+        (0x4502, End::Halted, 7, 27, 0x4602),
+        (0x0000, End::Halted, 7, 27, 0x4602),
+        (0x8100, End::Halted, 7, 27, 0x4602),
+        (0xFFFE, End::Halted, 7, 27, 0x4602),
+    ] {
+        let (mut m, mut memory) = paper_start();
+        let ran = to(&mut m, &mut memory, &[6], Stop::At(address), 20);
+        assert_eq!(ran, Ok((end, steps)), "{address:04X}");
+        assert_eq!((m.clock, m.registers[PC]), (clock, pc), "{address:04X}");
+    }
+}
+
+#[test]
+fn without_a_stop_address_the_run_is_the_old_one() {
+    let (begun, _) = paper_start();
+    for (budget, end, steps, clock, pc) in [
+        (0, End::Spent, 0, 0, 0x4400),
+        (1, End::Spent, 1, 2, 0x4404),
+        (2, End::Spent, 2, 4, 0x8000),
+        (3, End::Spent, 3, 5, 0x8002),
+        (4, End::Spent, 4, 18, 0x4500),
+        (5, End::Spent, 5, 24, 0x8006),
+        (6, End::Spent, 6, 26, 0x4600),
+        (7, End::Halted, 7, 27, 0x4602),
+        (8, End::Halted, 7, 27, 0x4602),
+        (1_000_000, End::Halted, 7, 27, 0x4602),
+    ] {
+        let (mut m, mut memory) = (begun, paper_memory());
+        let ran = to(&mut m, &mut memory, &[6], Stop::Never, budget);
+        assert_eq!(ran, Ok((end, steps)), "{budget}");
+        assert_eq!((m.clock, m.registers[PC]), (clock, pc), "{budget}");
+    }
+}
+
+#[test]
+fn address_comes_before_spent() {
+    // 8000 is met after two steps: with a budget of two both ends hold.
+    for (budget, end, steps) in [
+        (0, End::Spent, 0),
+        (1, End::Spent, 1),
+        (2, End::Address, 2),
+        (3, End::Address, 2),
+        (1_000_000, End::Address, 2),
+    ] {
+        let (mut m, mut memory) = paper_start();
+        let ran = to(&mut m, &mut memory, &[6], Stop::At(0x8000), budget);
+        assert_eq!(ran, Ok((end, steps)), "{budget}");
+    }
+    // "Budget 0 at the address is "address" with 0 steps", and so is any other.
+    for budget in [0, 1, 20, 1_000_000] {
+        let (mut m, mut memory) = paper_start();
+        let before = m;
+        let ran = to(&mut m, &mut memory, &[6], Stop::At(0x4400), budget);
+        assert_eq!(ran, Ok((End::Address, 0)), "{budget}");
+        assert_eq!((m, memory), (before, paper_memory()));
+    }
+}
+
+#[test]
+fn halted_comes_before_address() {
+    // "Halted at the address is halted": at pc, with every budget.
+    for budget in [0, 1, 1_000_000] {
+        let (mut m, mut memory) = paper_start();
+        m.halted = true;
+        let before = m;
+        for address in [0x4400, 0x4404, 0x8000] {
+            let ran = to(&mut m, &mut memory, &[6], Stop::At(address), budget);
+            assert_eq!(ran, Ok((End::Halted, 0)));
+        }
+        assert_eq!((m, memory), (before, paper_memory()));
+    }
+    // HLT at 4600 leaves pc at 4602: also when the budget is spent with it.
+    let mut memory = world(&[(0x4600, 0x0001)]);
+    for budget in [1, 2] {
+        let mut m = machine_at(0xFFFE, 0x4600);
+        let ran = to(&mut m, &mut memory, &[], Stop::At(0x4602), budget);
+        assert_eq!(ran, Ok((End::Halted, 1)));
+        assert_eq!((m.registers[PC], m.clock), (0x4602, 1));
+    }
+    // At the HLT itself it stops before it.
+    let mut m = machine_at(0xFFFE, 0x4600);
+    let ran = to(&mut m, &mut memory, &[], Stop::At(0x4600), 2);
+    assert_eq!(ran, Ok((End::Address, 0)));
+    assert!(!m.halted);
+}
+
+#[test]
+fn clock_comes_before_address() {
+    // MOV #8 2 at 4400 takes 2 cycles and goes to 4404.
+    for (clock, end) in [
+        (CLOCK_LIMIT - 2, End::Address),
+        (CLOCK_LIMIT - 1, End::Clock),
+        (CLOCK_LIMIT, End::Clock),
+    ] {
+        for budget in [1, 2] {
+            let (mut m, mut memory) = paper_start();
+            m.clock = clock;
+            let ran = to(&mut m, &mut memory, &[], Stop::At(0x4404), budget);
+            assert_eq!(ran, Ok((end, 1)), "{clock} {budget}");
+            assert_eq!((m.clock, m.registers[PC]), (clock + 2, 0x4404));
+        }
+    }
+    // At 2^62 a run still begins, and stops before its first step.
+    let (mut m, mut memory) = paper_start();
+    m.clock = CLOCK_LIMIT;
+    let ran = to(&mut m, &mut memory, &[], Stop::At(0x4400), 9);
+    assert_eq!(ran, Ok((End::Address, 0)));
+    // Above it the run is refused, at its address and elsewhere.
+    m.clock = CLOCK_LIMIT + 1;
+    for address in [0x4400, 0x4404] {
+        let ran = to(&mut m, &mut memory, &[], Stop::At(address), 9);
+        assert_eq!(ran, Err(6));
+    }
+    // A HLT whose cycle goes past 2^62 is halted before all else.
+    let mut memory = world(&[(0x4600, 0x0001)]);
+    let mut m = machine_at(0xFFFE, 0x4600);
+    m.clock = CLOCK_LIMIT;
+    let ran = to(&mut m, &mut memory, &[], Stop::At(0x4602), 1);
+    assert_eq!(ran, Ok((End::Halted, 1)));
+}
+
+#[test]
+fn the_first_instruction_of_each_service() {
+    // Plain: stamp 4 breaks into step 2, the branch to 8000. The step ends at
+    // the service address, and 8000 is met after its RETI, at 15.
+    for (address, steps, clock) in [(0x4500, 2, 10), (0x8000, 3, 15)] {
+        let (mut m, mut memory) = paper_start();
+        let ran = to(&mut m, &mut memory, &[4], Stop::At(address), 20);
+        assert_eq!(ran, Ok((End::Address, steps)));
+        assert_eq!((m.clock, m.registers[PC]), (clock, address));
+    }
+    // Padded at 18, chained at 29: stamps 6 and 13. At the address again the
+    // run stops at once; after a step it goes on to the next time.
+    let (mut m, mut memory) = paper_start();
+    let service = Stop::At(0x4500);
+    let ran = to(&mut m, &mut memory, &[6, 13], service, 20);
+    assert_eq!((ran, m.clock), (Ok((End::Address, 4)), 18));
+    let ran = to(&mut m, &mut memory, &[6, 13], service, 20);
+    assert_eq!((ran, m.clock), (Ok((End::Address, 0)), 18));
+    let stepped = m.step(&mut memory, &LAYOUT, &[6, 13], NO_TRACE);
+    assert_eq!((stepped, m.clock), (Ok(Outcome::Chained), 29));
+    let ran = to(&mut m, &mut memory, &[6, 13], service, 20);
+    assert_eq!((ran, m.clock), (Ok((End::Address, 0)), 29));
+    let stepped = m.step(&mut memory, &LAYOUT, &[6, 13], NO_TRACE);
+    assert_eq!((stepped, m.clock), (Ok(Outcome::Back), 35));
+    let ran = to(&mut m, &mut memory, &[6, 13], service, 20);
+    assert_eq!((ran, m.clock), (Ok((End::Halted, 2)), 38));
+    // Padded again after the return padding, at 36: stamps 6 and 24.
+    let (mut m, mut memory) = paper_start();
+    let ran = to(&mut m, &mut memory, &[6, 24], service, 20);
+    assert_eq!((ran, m.clock), (Ok((End::Address, 4)), 18));
+    let stepped = m.step(&mut memory, &LAYOUT, &[6, 24], NO_TRACE);
+    assert_eq!((stepped, m.clock), (Ok(Outcome::Padded), 36));
+    assert_eq!(m.registers[PC], 0x4500);
+    // 8002 where the visit goes on: stamp 5 is served at 17 in place of it, and
+    // the run stops there after B at 22.
+    let (mut m, mut memory) = paper_start();
+    let ran = to(&mut m, &mut memory, &[5], Stop::At(0x8002), 20);
+    assert_eq!((ran, m.clock), (Ok((End::Address, 4)), 22));
+    assert_eq!(m.held, None);
+}
+
+#[test]
+fn after_a_reset_and_in_each_section() {
+    // NOP at 4400, 4402 does not decode, a reset goes to 4400: R@1 X@5 R@6.
+    let mut memory = world(&[(0xFFFE, 0x4401), (0x4400, 0x4303)]);
+    let begun = Machine::start(&memory).unwrap();
+    let mut m = begun;
+    let ran = to(&mut m, &mut memory, &[], Stop::At(0x4402), 9);
+    assert_eq!((ran, m.clock), (Ok((End::Address, 1)), 1));
+    let ran = to(&mut m, &mut memory, &[], Stop::At(0x4400), 9);
+    assert_eq!((ran, m.clock), (Ok((End::Address, 1)), 5));
+    assert_eq!((m.registers[PC], m.previous), (0x4400, 0xFFFE));
+    // The vector's own word is odd; the address that pc gets is the even one.
+    let ran = to(&mut m, &mut memory, &[], Stop::At(0x4401), 9);
+    assert_eq!(ran, Err(11));
+    // A branch into data, and one into the middle of code: pc is there before
+    // the step that resets, from where it comes back.
+    for target in [0x8100, 0x8102, 0x8002, 0x8006] {
+        let mut memory = world(&[(0xFFFE, 0x4400), (0x4400, 0x4030), (0x4402, target)]);
+        let mut m = Machine::start(&memory).unwrap();
+        let ran = to(&mut m, &mut memory, &[], Stop::At(target), 9);
+        assert_eq!((ran, m.clock), (Ok((End::Address, 1)), 2));
+        assert_eq!(m.registers[PC], target);
+        let ran = to(&mut m, &mut memory, &[], Stop::At(0x4400), 9);
+        assert_eq!((ran, m.clock), (Ok((End::Address, 1)), 6));
+    }
+    // The entry, reached from outside, and a visit's way through the module.
+    let (mut m, mut memory) = paper_start();
+    for (address, steps, clock) in [(0x8000, 2, 4), (0x8002, 1, 5), (0x8006, 1, 7)] {
+        let ran = to(&mut m, &mut memory, &[], Stop::At(address), 9);
+        assert_eq!((ran, m.clock), (Ok((End::Address, steps)), clock));
+    }
+}
+
+/// The largest budget, and one step more.
+const MOST: u64 = 1_000_000;
+const TOO_MANY: u64 = 1_000_001;
+/// An odd stop address.
+const ODD: Stop = Stop::At(0x4401);
+
+/// A machine at 4400 with this clock, running or halted.
+fn at_clock(clock: u64, halted: bool) -> Machine {
+    Machine {
+        clock,
+        halted,
+        ..machine_at(0xFFFE, 0x4400)
+    }
+}
+
+#[test]
+fn landmark_is_refused_after_1_2_3_10_and_4() {
+    let bad_layout = Layout {
+        service: 0x8000,
+        ..LAYOUT
+    };
+    let unequal = Trace {
+        stamps: &[1],
+        words: &[],
+    };
+    let (mut short, mut memory) = (vec![0; 65_535], paper_memory());
+    for halted in [false, true] {
+        let mut m = at_clock(CLOCK_LIMIT + 1, halted);
+        m.registers[ZERO] = 1;
+        let before = m;
+        let ran = m.run(&mut short, &bad_layout, &[0], unequal, ODD, TOO_MANY);
+        assert_eq!(ran, Err(1));
+        let ran = m.run(&mut memory, &bad_layout, &[0], unequal, ODD, TOO_MANY);
+        assert_eq!(ran, Err(2));
+        let ran = m.run(&mut memory, &LAYOUT, &[0], unequal, ODD, TOO_MANY);
+        assert_eq!(ran, Err(3));
+        let ran = m.run(&mut memory, &LAYOUT, &[1], unequal, ODD, TOO_MANY);
+        assert_eq!(ran, Err(10));
+        assert_eq!(to(&mut m, &mut memory, &[1], ODD, TOO_MANY), Err(4));
+        assert_eq!(m, before);
+    }
+    assert_eq!(memory, paper_memory());
+}
+
+/// A machine with this clock, running or halted, refuses such a run by this
+/// number, which leaves machine and memory as they are.
+fn running_and_halted_refuse(clock: u64, stop: Stop, budget: u64, number: u8) {
+    for halted in [false, true] {
+        let (before, mut memory) = (at_clock(clock, halted), paper_memory());
+        let mut m = before;
+        let ran = to(&mut m, &mut memory, &[1], stop, budget);
+        assert_eq!(
+            (ran, m),
+            (Err(number), before),
+            "{clock} {stop:?} {budget} {halted}"
+        );
+        assert_eq!(memory, paper_memory());
+    }
+}
+
+#[test]
+fn landmark_is_refused_right_after_5_and_before_6() {
+    for (clock, stop, budget, number) in [
+        (CLOCK_LIMIT + 1, ODD, TOO_MANY, 5),
+        (CLOCK_LIMIT + 1, ODD, MOST, 11),
+        (CLOCK_LIMIT + 1, ODD, 0, 11),
+        (0, ODD, TOO_MANY, 5),
+        (0, ODD, MOST, 11),
+        // An even one, or none: 6 is next.
+        (CLOCK_LIMIT + 1, Stop::At(0x4402), TOO_MANY, 5),
+        (CLOCK_LIMIT + 1, Stop::At(0x4402), MOST, 6),
+        (CLOCK_LIMIT + 1, Stop::At(0x4400), TOO_MANY, 5),
+        (CLOCK_LIMIT + 1, Stop::At(0x4400), MOST, 6),
+        (CLOCK_LIMIT + 1, Stop::Never, TOO_MANY, 5),
+        (CLOCK_LIMIT + 1, Stop::Never, MOST, 6),
+    ] {
+        running_and_halted_refuse(clock, stop, budget, number);
+    }
+}
+
+#[test]
+fn an_even_landmark_is_taken_with_the_largest_budget() {
+    for (halted, end) in [(false, End::Address), (true, End::Halted)] {
+        let (mut m, mut memory) = (at_clock(0, halted), paper_memory());
+        let ran = to(&mut m, &mut memory, &[1], Stop::At(0x4400), MOST);
+        assert_eq!(ran, Ok((end, 0)));
+        assert_eq!(memory, paper_memory());
+    }
+}
+
+#[test]
+fn every_odd_address_is_refused_and_no_even_one() {
+    let (begun, mut memory) = paper_start();
+    for address in 0..=0xFFFF {
+        let mut m = begun;
+        let ran = to(&mut m, &mut memory, &[], Stop::At(address), 0);
+        let expected = match address {
+            0x4400 => Ok((End::Address, 0)),
+            _ if address % 2 == 1 => Err(11),
+            _ => Ok((End::Spent, 0)),
+        };
+        assert_eq!((ran, m), (expected, begun), "{address:04X}");
+    }
+}
+
+#[test]
+fn a_loop_passes_its_address_many_times() {
+    // MOV #4400 0 at 4400 takes 2 cycles and goes to itself.
+    let mut memory = world(&[(0x4400, 0x4030), (0x4402, 0x4400)]);
+    let mut m = machine_at(0xFFFE, 0x4400);
+    for round in 0..5 {
+        let before = m;
+        for budget in [0, 1, 50] {
+            let ran = to(&mut m, &mut memory, &[], Stop::At(0x4400), budget);
+            assert_eq!((ran, m), (Ok((End::Address, 0)), before));
+        }
+        assert_eq!(one(&mut m, &mut memory), Outcome::Ran);
+        assert_eq!(m.clock, 2 * (round + 1));
+    }
+    // Its second word is no step's pc.
+    let ran = to(&mut m, &mut memory, &[], Stop::At(0x4402), 1_000_000);
+    assert_eq!(ran, Ok((End::Spent, 1_000_000)));
+    // Two instructions in turn, 1 and 2 cycles: each is met after the other.
+    let mut memory = world(&[(0x4400, 0x4303), (0x4402, 0x4030), (0x4404, 0x4400)]);
+    let mut m = machine_at(0xFFFE, 0x4400);
+    for round in 0..5 {
+        let ran = to(&mut m, &mut memory, &[], Stop::At(0x4402), 9);
+        assert_eq!((ran, m.clock), (Ok((End::Address, 1)), 3 * round + 1));
+        let ran = to(&mut m, &mut memory, &[], Stop::At(0x4400), 9);
+        assert_eq!((ran, m.clock), (Ok((End::Address, 1)), 3 * round + 3));
+    }
+}
+
+#[test]
+fn a_second_word_at_the_address_is_not_begun_but_where_it_is_jumped_to() {
+    // MOV #4303 5 at 4400, whose second word is a NOP to one who jumps to it.
+    let words = [
+        (0x4400, 0x4035),
+        (0x4402, 0x4303),
+        (0x4404, 0x4030),
+        (0x4406, 0x4402),
+    ];
+    let mut memory = world(&words);
+    let mut m = machine_at(0xFFFE, 0x4400);
+    let ran = to(&mut m, &mut memory, &[], Stop::At(0x4402), 9);
+    assert_eq!((ran, m.clock), (Ok((End::Address, 2)), 4));
+    assert_eq!(m.registers[5], 0x4303);
+    // From there the NOP falls through to 4404.
+    let ran = to(&mut m, &mut memory, &[], Stop::At(0x4404), 9);
+    assert_eq!((ran, m.clock), (Ok((End::Address, 1)), 5));
+}
+
+#[test]
+fn a_stop_among_a_hundred_moves() {
+    // MOV 5 6 at 4400 to 44C6, 1 cycle each, then HLT; a branch into their midst.
+    let mut words = vec![(0x44C8, 0x0001), (0x4300, 0x4030), (0x4302, 0x4440)];
+    words.extend((0..100).map(|n| (0x4400 + 2 * n, 0x4506)));
+    let mut memory = world(&words);
+    for n in 0..=100 {
+        let mut m = machine_at(0xFFFE, 0x4400);
+        m.registers[5] = 0x5555;
+        let address = 0x4400 + 2 * n;
+        let ran = to(&mut m, &mut memory, &[], Stop::At(address), 1000);
+        assert_eq!(ran, Ok((End::Address, n as u64)));
+        assert_eq!((m.clock, m.registers[PC]), (n as u64, address));
+        assert_eq!(m.registers[6], if n == 0 { 0 } else { 0x5555 });
+        let ran = to(&mut m, &mut memory, &[], Stop::Never, 1000);
+        assert_eq!(ran, Ok((End::Halted, 101 - n as u64)));
+        assert_eq!((m.clock, m.registers[PC]), (101, 0x44CA));
+    }
+    // Landing there by the branch, past it, and before it.
+    for (address, end, steps, clock) in [
+        (0x4440, End::Address, 1, 2),
+        (0x4442, End::Address, 2, 3),
+        (0x443E, End::Halted, 70, 71),
+    ] {
+        let mut m = machine_at(0xFFFE, 0x4300);
+        let ran = to(&mut m, &mut memory, &[], Stop::At(address), 1000);
+        assert_eq!((ran, m.clock), (Ok((end, steps)), clock));
+    }
+}
+
+#[test]
+fn with_a_trace_too() {
+    // IN 0 goes where the last record says: 10 at 4400 from clock 9 with a NOP
+    // before it, so from clock 10 to 1110, 2 cycles.
+    let mut memory = world(&[(0x43FE, 0x4303), (0x4400, 0x0010)]);
+    for (address, end, steps, clock) in [
+        (0x4400, End::Address, 1, 10),
+        (0x1110, End::Address, 2, 12),
+        (0x2222, End::Spent, 2, 12),
+    ] {
+        let mut m = machine_at(0xFFFE, 0x43FE);
+        m.clock = 9;
+        let ran = m.run(&mut memory, &LAYOUT, &[], RIDE, Stop::At(address), 2);
+        assert_eq!((ran, m.clock), (Ok((end, steps)), clock), "{address:04X}");
+    }
+}
+
+/// A busy memory with stamps, and its run without a stop address.
+struct BusyRun {
+    seed: u64,
+    memory: Vec<u8>,
+    stamps: Vec<u64>,
+    start: Machine,
+    budget: u64,
+    /// Pc before each step, and at the end.
+    pcs: Vec<u16>,
+    machine_after: Machine,
+    memory_after: Vec<u8>,
+}
+
+impl BusyRun {
+    fn new(seed: u64, random: &mut Random) -> BusyRun {
+        let memory = busy_memory(random);
+        let stamps = random.stamps(200);
+        let start = Machine::start(&memory).unwrap();
+        let budget = 1 + random.below(300);
+        let (mut m, mut memory_after) = (start, memory.clone());
+        let mut pcs = vec![m.registers[PC]];
+        for _ in 0..budget {
+            m.step(&mut memory_after, &BUSY_LAYOUT, &stamps, NO_TRACE)
+                .unwrap();
+            pcs.push(m.registers[PC]);
+        }
+        BusyRun {
+            seed,
+            memory,
+            stamps,
+            start,
+            budget,
+            pcs,
+            machine_after: m,
+            memory_after,
+        }
+    }
+
+    /// An address outside, one in the module, or mostly a pc of the run.
+    fn some_address(&self, random: &mut Random) -> u16 {
+        match random.below(4) {
+            0 => 0x4400 + 2 * random.below(0x90) as u16,
+            1 => 0x8000 + 2 * random.below(0x10) as u16,
+            _ => self.pcs[random.below(self.pcs.len() as u64) as usize],
+        }
+    }
+
+    /// The end and the steps of a run to the address: it stops at the first step
+    /// with that pc.
+    fn expected(&self, address: u16) -> (End, u64) {
+        match self.pcs.iter().position(|&pc| pc == address) {
+            Some(steps) => (End::Address, steps as u64),
+            None => (End::Spent, self.budget),
+        }
+    }
+
+    /// Runs to the address and from there on with what is left of the budget; tells
+    /// whether the address is met.
+    fn meets(&self, address: u16) -> bool {
+        let (mut m, mut memory) = (self.start, self.memory.clone());
+        let (end, steps) = self.expected(address);
+        let met = end == End::Address;
+        let mut run = |stop, budget| {
+            let ran = m.run(
+                &mut memory,
+                &BUSY_LAYOUT,
+                &self.stamps,
+                NO_TRACE,
+                stop,
+                budget,
+            );
+            (ran, m)
+        };
+        // "No earlier step had that pc", and it stands there before the next.
+        let (ran, there) = run(Stop::At(address), self.budget);
+        assert_eq!(ran, Ok((end, steps)), "{} {address:04X}", self.seed);
+        assert_eq!(met, there.registers[PC] == address);
+        // On from there with what is left is the run without it.
+        let left = self.budget - steps;
+        let after = (Ok((End::Spent, left)), self.machine_after);
+        assert_eq!(run(Stop::Never, left), after);
+        assert!(memory == self.memory_after);
+        met
+    }
+}
+
+#[test]
+fn landmarks_at_random() {
+    let (mut met, mut spent) = (0, 0);
+    for seed in 0..600 {
+        let mut random = Random(seed);
+        let run = BusyRun::new(seed, &mut random);
+        let addresses = [(); 8].map(|()| run.some_address(&mut random));
+        let met_here = addresses.iter().filter(|&&a| run.meets(a)).count();
+        met += met_here;
+        spent += addresses.len() - met_here;
+    }
+    assert!(met > 0 && spent > 0);
 }
 
 // "Bench sheet", refusals
@@ -1615,6 +2175,62 @@ impl Random {
     }
 }
 
+/// The layout of busy memories.
+const BUSY_LAYOUT: Layout = Layout {
+    code_end: 0x8020,
+    data_end: 0x8110,
+    ..LAYOUT
+};
+
+/// Instructions outside: sp, GIE, the device, plain work, and mostly the entry.
+const OUTSIDE_WORK: &[&[u16]] = &[
+    &[0x4031, 0x5000],
+    &[0x4032, 0x0008],
+    &[0x4032, 0x0008],
+    &[0x4038, 0x8104],
+    &[0x403A, 0x0019, 0x002A],
+    &[0x0019],
+    &[0x4303],
+    &[0x4030, 0x8000],
+];
+
+/// Inside: work of 1, 2, 4 and 5 cycles, and ways out.
+const INSIDE_WORK: &[&[u16]] = &[
+    &[0x4303],
+    &[0x5607],
+    &[0x4038, 0x8104],
+    &[0x4038, 0x8104],
+    &[0x4035, 0x4400],
+    &[0x4788, 0x0000],
+    &[0x4827],
+    &[0xE037, 0xFFFF],
+    &[0x4500],
+    &[0x4030, 0x4404],
+];
+
+/// In service.
+const SERVICE_WORK: &[&[u16]] = &[
+    &[0x1300],
+    &[0x1300],
+    &[0x4303],
+    &[0x4031, 0x5100],
+    &[0x4032, 0x0008],
+    &[0x403A, 0x0007, 0x002A],
+];
+
+/// Programs that keep busy outside, inside and in service; the one outside loops
+/// and the service returns.
+fn busy_memory(random: &mut Random) -> Vec<u8> {
+    let mut memory = world(&[(0xFFFE, 0x4400)]);
+    random.fill(&mut memory, 0x4400, 0x4440, OUTSIDE_WORK);
+    write_word(&mut memory, 0x4440, 0x4030);
+    write_word(&mut memory, 0x4442, 0x4400);
+    random.fill(&mut memory, 0x8000, 0x8020, INSIDE_WORK);
+    random.fill(&mut memory, 0x4500, 0x4510, SERVICE_WORK);
+    write_word(&mut memory, 0x4510, 0x1300);
+    memory
+}
+
 #[test]
 fn laws_at_random() {
     let layout = Layout {
@@ -1626,58 +2242,7 @@ fn laws_at_random() {
     let mut ended_by = [0u32; 2];
     for seed in 0..3000 {
         let mut random = Random(seed);
-        let mut memory = world(&[(0xFFFE, 0x4400)]);
-        // Outside: sp, GIE, the device, plain work, and mostly the entry.
-        random.fill(
-            &mut memory,
-            0x4400,
-            0x4440,
-            &[
-                &[0x4031, 0x5000],
-                &[0x4032, 0x0008],
-                &[0x4032, 0x0008],
-                &[0x4038, 0x8104],
-                &[0x403A, 0x0019, 0x002A],
-                &[0x0019],
-                &[0x4303],
-                &[0x4030, 0x8000],
-            ],
-        );
-        write_word(&mut memory, 0x4440, 0x4030);
-        write_word(&mut memory, 0x4442, 0x4400);
-        // Inside: work of 1, 2, 4 and 5 cycles, and ways out.
-        random.fill(
-            &mut memory,
-            0x8000,
-            0x8020,
-            &[
-                &[0x4303],
-                &[0x5607],
-                &[0x4038, 0x8104],
-                &[0x4038, 0x8104],
-                &[0x4035, 0x4400],
-                &[0x4788, 0x0000],
-                &[0x4827],
-                &[0xE037, 0xFFFF],
-                &[0x4500],
-                &[0x4030, 0x4404],
-            ],
-        );
-        // Service.
-        random.fill(
-            &mut memory,
-            0x4500,
-            0x4510,
-            &[
-                &[0x1300],
-                &[0x1300],
-                &[0x4303],
-                &[0x4031, 0x5100],
-                &[0x4032, 0x0008],
-                &[0x403A, 0x0007, 0x002A],
-            ],
-        );
-        write_word(&mut memory, 0x4510, 0x1300);
+        let mut memory = busy_memory(&mut random);
         let stamps = random.stamps(200);
         // Every second world has records too, some at timetable stamps.
         let most = if seed % 2 == 0 { 1 } else { 100 };

@@ -29,6 +29,7 @@
 //! S            start; where it is refused the machine stays as it was
 //! T            step
 //! G n          run with budget n
+//! G n a        run with budget n and stop address a
 //! ```
 //!
 //! ```text
@@ -38,7 +39,7 @@
 
 use std::io::Read;
 
-use model::{End, Layout, Machine, Outcome, SavedContext, Trace, GIE, SR};
+use model::{End, Layout, Machine, Outcome, SavedContext, Stop, Trace, GIE, SR};
 
 const BYTES: usize = 65_538;
 const MOST_STAMPS: usize = 4_100;
@@ -201,7 +202,8 @@ fn obey(world: &mut World, letter: char, fields: &[u64]) -> Option<()> {
         ('z', []) => machine.halted = false,
         ('S', []) => start(world),
         ('T', []) => step(world),
-        ('G', &[budget]) => run(world, budget),
+        ('G', &[budget]) => run(world, Stop::Never, budget),
+        ('G', &[budget, address]) => run(world, Stop::At(word(address)?), budget),
         _ => return None,
     }
     Some(())
@@ -238,7 +240,7 @@ fn step(world: &mut World) {
     );
 }
 
-fn run(world: &mut World, budget: u64) {
+fn run(world: &mut World, stop: Stop, budget: u64) {
     let lent = &mut world.memory[..world.lent];
     let trace = Trace {
         stamps: &world.trace_stamps,
@@ -246,7 +248,7 @@ fn run(world: &mut World, budget: u64) {
     };
     let ran = world
         .machine
-        .run(lent, &world.layout, &world.stamps, trace, budget);
+        .run(lent, &world.layout, &world.stamps, trace, stop, budget);
     let answer = match ran {
         Ok((end, steps)) => format!("{} {steps}", End::letter(&end)),
         Err(number) => format!("E {number}"),
