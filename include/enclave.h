@@ -18,9 +18,9 @@
 #include <stdint.h>
 
 /* The version of this header and of the Rust crate beside it; CHANGELOG.md says what each brought. */
-#define ENCLAVE_VERSION "0.3.0"
+#define ENCLAVE_VERSION "0.4.0"
 #define ENCLAVE_VERSION_MAJOR 0
-#define ENCLAVE_VERSION_MINOR 3
+#define ENCLAVE_VERSION_MINOR 4
 #define ENCLAVE_VERSION_PATCH 0
 
 #ifdef __cplusplus
@@ -44,8 +44,8 @@ enum {
 
 /*
  * Why a call is refused. A call tries these in the order in which they stand here, as far as they concern what it takes: that is the order
- * of their numbers, but for ENCLAVE_TRACE, which comes right after ENCLAVE_TIMETABLE. The sheet reader tries ENCLAVE_SHEET first and then
- * goes line by line, on a line ENCLAVE_LINE first.
+ * of their numbers, but for ENCLAVE_TRACE, which comes right after ENCLAVE_TIMETABLE, and ENCLAVE_LANDMARK, right after ENCLAVE_DISTANCE.
+ * The sheet reader tries ENCLAVE_SHEET first and then goes line by line, on a line ENCLAVE_LINE first.
  */
 enum enclave_refusal {
     ENCLAVE_TAKEN = 0,     /* the call is not refused */
@@ -55,6 +55,7 @@ enum enclave_refusal {
     ENCLAVE_TRACE = 10,    /* the trace's stamps are too many, out of range or not rising, or its words are not equally many */
     ENCLAVE_FRAME = 4,     /* the state is one that no machine of this layout can be in */
     ENCLAVE_DISTANCE = 5,  /* the budget is above 1,000,000 */
+    ENCLAVE_LANDMARK = 11, /* the stop address is odd */
     ENCLAVE_CLOCK = 6,     /* the clock is above 2^62 */
     ENCLAVE_LINE = 7,      /* a line of the sheet can't be read */
     ENCLAVE_SHEET = 8,     /* the sheet has more than 32,768 bytes */
@@ -99,11 +100,15 @@ enum enclave_cause {
     ENCLAVE_WRITE = 8        /* a write is barred */
 };
 
-/* Why a run stopped: its letter on a bench transcript. */
+/*
+ * Why a run stopped: the first of these that held before a step, also before the first one, in the order in which they stand here. A bench
+ * transcript has their letters, but for ENCLAVE_END_ADDRESS: only enclave_run_to says that.
+ */
 enum enclave_end {
     ENCLAVE_END_HALTED = 'H',
-    ENCLAVE_END_CLOCK = 'T', /* the clock went above 2^62 */
-    ENCLAVE_END_SPENT = 'S'  /* the budget is spent */
+    ENCLAVE_END_CLOCK = 'T',   /* the clock went above 2^62 */
+    ENCLAVE_END_ADDRESS = 'A', /* pc is the stop address */
+    ENCLAVE_END_SPENT = 'S'    /* the budget is spent */
 };
 
 /* What comes next on a transcript. Any other value is as ENCLAVE_COMPLETE. */
@@ -144,8 +149,8 @@ enum enclave_row {
  * The state of a machine beside its memory. registers[0] is pc, [1] sp, [2] sr; [3] is 0. Where held is 0, the saved registers,
  * held_previous and held_age mean nothing and are not looked at. Where a call that is not refused leaves held at 0, it hands
  * held_previous and held_age back as 0, also if it makes no step, and the saved registers as 0 if it is start or makes a step. A call
- * that makes no step, of a halted machine or with budget 0, hands everything else back as it came, the saved registers too. The arrays in
- * the unions are for the functions below.
+ * that makes no step, of a halted machine, with budget 0 or at its stop address, hands everything else back as it came, the saved registers
+ * too. The arrays in the unions are for the functions below.
  */
 struct enclave_machine {
     uint16_t registers[16];
@@ -233,6 +238,10 @@ uint8_t enclave_run(uint16_t registers[16], uint16_t saved[16], uint16_t control
                     uint8_t *memory, size_t size, const uint16_t layout[5], const uint64_t *stamps, size_t count,
                     const uint64_t *trace_stamps, size_t trace_count, const uint16_t *trace_words, size_t word_count,
                     uint64_t budget, uint8_t *end, uint64_t *steps);
+uint8_t enclave_run_to(uint16_t registers[16], uint16_t saved[16], uint16_t control[5], uint64_t time[3],
+                       uint8_t *memory, size_t size, const uint16_t layout[5], const uint64_t *stamps, size_t count,
+                       const uint64_t *trace_stamps, size_t trace_count, const uint16_t *trace_words, size_t word_count,
+                       uint16_t stop, uint64_t budget, uint8_t *end, uint64_t *steps);
 uint8_t enclave_transcribe(uint16_t registers[16], uint16_t saved[16], uint16_t control[5], uint64_t time[3],
                            uint8_t *memory, size_t memory_size, const uint16_t layout[5], const uint64_t *stamps,
                            size_t count, const uint64_t *trace_stamps, size_t trace_count,
@@ -277,7 +286,7 @@ static inline enum enclave_refusal enclave_machine_step(struct enclave_machine *
 
 /*
  * Steps until the machine is halted, its clock is above 2^62 or the budget is spent: which of these (enum enclave_end), and the number
- * of steps made. Refusals 1, 2, 3, 10, 4, 5, 6, in this order.
+ * of steps made. It has no stop address: enclave_machine_run_to takes one. Refusals 1, 2, 3, 10, 4, 5, 6, in this order.
  */
 static inline enum enclave_refusal enclave_machine_run(struct enclave_machine *m, uint8_t *memory, size_t size,
                                                        const struct enclave_layout *layout, const uint64_t *stamps,
@@ -287,6 +296,24 @@ static inline enum enclave_refusal enclave_machine_run(struct enclave_machine *m
     return (enum enclave_refusal)enclave_run(m->registers, m->saved, m->control, m->time, memory, size,
                                              layout->addresses, stamps, count, trace->stamps, trace->stamp_count,
                                              trace->words, trace->word_count, budget, end, steps);
+}
+
+/*
+ * The same with a stop address: steps until the machine is halted, its clock is above 2^62, its pc is the stop address or the budget is
+ * spent, tested in this order before each step, also before the first. So a run that begins at its stop address ends there with 0 steps;
+ * to get to the next time that pc is there, make one step first. What counts is pc before a step, wherever it came from: also the first
+ * instruction of a service, or the one after a reset. The address of an instruction's second word is never met while that instruction
+ * is executed, since pc is its first word's. Any even address is taken, also one in code or data. Up to its end the run makes the steps of
+ * one without a stop address. Refusals 1, 2, 3, 10, 4, 5, 11, 6, in this order; 11 is an odd stop address, also on a halted machine.
+ */
+static inline enum enclave_refusal enclave_machine_run_to(struct enclave_machine *m, uint8_t *memory, size_t size,
+                                                          const struct enclave_layout *layout, const uint64_t *stamps,
+                                                          size_t count, const struct enclave_trace *trace,
+                                                          uint16_t stop, uint64_t budget, uint8_t *end, uint64_t *steps)
+{
+    return (enum enclave_refusal)enclave_run_to(m->registers, m->saved, m->control, m->time, memory, size,
+                                                layout->addresses, stamps, count, trace->stamps, trace->stamp_count,
+                                                trace->words, trace->word_count, stop, budget, end, steps);
 }
 
 /*

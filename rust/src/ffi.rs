@@ -77,6 +77,33 @@ extern "C" {
         steps: *mut u64,
     ) -> u8;
 
+    /// The same, also stopped where pc is `stop` before a step: the letter is then `A`. Refusals 1, 2,
+    /// 3, 10, 4, 5, 11, 6, in this order.
+    ///
+    /// # Safety
+    ///
+    /// As of the module; `memory` points to `size` bytes, `stamps` to `count` stamps, `trace_stamps` to
+    /// `trace_count` stamps, `trace_words` to `word_count` words.
+    pub fn enclave_run_to(
+        registers: *mut [u16; 16],
+        saved: *mut [u16; 16],
+        control: *mut [u16; 5],
+        time: *mut [u64; 3],
+        memory: *mut u8,
+        size: usize,
+        layout: *const [u16; 5],
+        stamps: *const u64,
+        count: usize,
+        trace_stamps: *const u64,
+        trace_count: usize,
+        trace_words: *const u16,
+        word_count: usize,
+        stop: u16,
+        budget: u64,
+        end: *mut u8,
+        steps: *mut u64,
+    ) -> u8;
+
     /// The next lines of a run's transcript, as many as there is room for, and how many bytes they
     /// are. `stage` is 0 where the header comes next, 1 where steps do, else nothing. Refusals 1, 2, 3,
     /// 10, 4, 5, in this order.

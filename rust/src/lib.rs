@@ -1,6 +1,6 @@
 //! A verified execution model of a 16-bit controller with one enclave module whose interrupts are
-//! padded: start, step and run a machine, write the transcript of a run, read and write one
-//! instruction, ask what a layout allows, read a bench sheet.
+//! padded: start, step and run a machine, also to an address, write the transcript of a run, read and
+//! write one instruction, ask what a layout allows, read a bench sheet.
 //!
 //! The work is done by a static library that is built from the proved machine; this crate gives it
 //! types, so that most of what the library refuses cannot be said:
@@ -13,8 +13,9 @@
 //! | trace | a [`Trace`] is made only by [`Trace::new`] |
 //! | frame | a [`Machine`] keeps its layout; [`Machine::from_fields`] asks the library |
 //! | distance | a [`Budget`] is made only by [`Budget::new`] |
+//! | landmark | a [`StopAddress`] is made only by [`StopAddress::new`] |
 //!
-//! What is left are *clock*, of [`Machine::step`] and [`Machine::run`], *word*, of
+//! What is left are *clock*, of [`Machine::step`], [`Machine::run`] and [`Machine::run_to`], *word*, of
 //! [`Instruction::read`] and [`Instruction::write`], and the refusals of [`Setup::read`].
 //!
 //! There is no global state: a call works on what it is lent and on nothing else, so the types are
@@ -63,6 +64,7 @@ mod rule;
 mod sheet;
 mod state;
 mod status;
+mod stop_address;
 mod timetable;
 mod trace;
 mod transcript;
@@ -80,6 +82,7 @@ pub use register::Register;
 pub use rule::Rule;
 pub use sheet::{Setup, SheetRefusal};
 pub use status::Status;
+pub use stop_address::StopAddress;
 pub use timetable::{Timetable, LAST_CLOCK, MOST_STAMPS};
 pub use trace::Trace;
 pub use transcript::Transcript;

@@ -1,12 +1,12 @@
-//! The machine: start, step, run.
+//! The machine: start, step, run, run to an address.
 
 use std::num::NonZeroU64;
 
 use crate::memory::zeros;
 use crate::raw::{Lists, Numbers, Progress};
 use crate::{
-    Budget, End, Kind, Layout, MachineFields, Refusal, Register, SavedContext, Status, Timetable,
-    Trace, MEMORY_SIZE,
+    Budget, End, Kind, Layout, MachineFields, Refusal, Register, SavedContext, Status, StopAddress,
+    Timetable, Trace, MEMORY_SIZE,
 };
 
 /// A machine beside its memory. It keeps the layout that it was started with, so its state is
@@ -79,6 +79,60 @@ impl Machine {
         let answer = self
             .state
             .run(memory, addresses, lists, budget, &mut end, &mut steps);
+        Refusal::taken(answer)?;
+        let end = End::told(end);
+        Ok(Stop { end, steps })
+    }
+
+    /// The same with a stop address: steps until the machine is halted, its clock is above 2^62, its pc
+    /// is the stop address or the budget is spent, tested in this order before each step, also before the
+    /// first. Up to its end it makes the steps of [`run`](Machine::run).
+    ///
+    /// What counts is pc before a step, wherever it came from: also the first instruction of a service,
+    /// or the one after a reset. A run that begins at its stop address ends there with 0 steps; to get to
+    /// the next time that pc is there, make one step first:
+    ///
+    /// ```
+    /// use enclave::{Budget, End, Layout, Machine, Memory, Stop, StopAddress, Timetable, Trace};
+    ///
+    /// let layout = Layout::new(0x8000..0x8008, 0x8100..0x8104, 0x4500)?;
+    /// let (none, silent) = (Timetable::empty(), Trace::empty());
+    /// let mut memory = Memory::zeroed();
+    /// memory.set_word(0xFFFE, 0x4400);
+    /// memory.set_word(0x4400, 0x4035); // MOV #4404 5
+    /// memory.set_word(0x4402, 0x4404);
+    /// memory.set_word(0x4404, 0x4303); // NOP
+    /// memory.set_word(0x4406, 0x4500); // JMP &5
+    /// let mut machine = Machine::start(layout, &memory);
+    /// let (landmark, budget) = (StopAddress::new(0x4404)?, Budget::new(1000)?);
+    /// let stop = machine.run_to(&mut memory, &none, &silent, landmark, budget)?;
+    /// assert_eq!((stop, machine.clock()), (Stop { end: End::Address, steps: 1 }, 2));
+    /// let stop = machine.run_to(&mut memory, &none, &silent, landmark, budget)?;
+    /// assert_eq!(stop, Stop { end: End::Address, steps: 0 });
+    /// machine.step(&mut memory, &none, &silent)?;
+    /// let stop = machine.run_to(&mut memory, &none, &silent, landmark, budget)?;
+    /// assert_eq!((stop, machine.clock()), (Stop { end: End::Address, steps: 1 }, 5));
+    /// # Ok::<(), enclave::Refusal>(())
+    /// ```
+    ///
+    /// # Errors
+    ///
+    /// Refusal *clock* where the clock is above 2^62 before the first step; machine and memory are
+    /// then as they were.
+    pub fn run_to(
+        &mut self,
+        memory: &mut [u8; MEMORY_SIZE],
+        timetable: &Timetable<'_>,
+        trace: &Trace<'_>,
+        stop: StopAddress,
+        budget: Budget,
+    ) -> Result<Stop, Refusal> {
+        let (addresses, lists) = (&self.layout.addresses, lent(timetable, trace));
+        let (mut end, mut steps) = (0, 0);
+        let (stop, budget) = (stop.address(), budget.steps());
+        let answer = self
+            .state
+            .run_to(memory, addresses, lists, stop, budget, &mut end, &mut steps);
         Refusal::taken(answer)?;
         let end = End::told(end);
         Ok(Stop { end, steps })

@@ -127,24 +127,27 @@ impl fmt::Display for Kind {
     }
 }
 
-/// Why a run stopped: the first of these that held.
+/// Why a run stopped: the first of these, in this order, that held before a step, also before the first.
 #[derive(Clone, Copy, Debug, PartialEq, Eq, Hash)]
 pub enum End {
     /// H: the machine is halted.
     Halted,
     /// T: the clock is above 2^62.
     Clock,
+    /// A: pc is the stop address. Only [`Machine::run_to`](crate::Machine::run_to) ends so.
+    Address,
     /// S: the budget is spent.
     Spent,
 }
 
 impl End {
-    /// Its letter on a bench transcript.
+    /// Its letter, which is that on a bench transcript, but for A, which no transcript has.
     #[must_use]
     pub const fn letter(self) -> char {
         match self {
             End::Halted => 'H',
             End::Clock => 'T',
+            End::Address => 'A',
             End::Spent => 'S',
         }
     }
@@ -154,8 +157,9 @@ impl End {
         match letter {
             b'H' => End::Halted,
             b'T' => End::Clock,
+            b'A' => End::Address,
             b'S' => End::Spent,
-            _ => unreachable!("an end is one of three letters"),
+            _ => unreachable!("an end is one of four letters"),
         }
     }
 }

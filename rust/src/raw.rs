@@ -128,6 +128,45 @@ impl Numbers {
         }
     }
 
+    /// Many steps, to a stop address at most: why it stopped, and how many they were.
+    #[expect(
+        clippy::too_many_arguments,
+        reason = "those of run, and the stop address"
+    )]
+    pub fn run_to(
+        &mut self,
+        memory: &mut [u8],
+        layout: &Addresses,
+        lists: Lists<'_>,
+        stop: u16,
+        budget: u64,
+        end: &mut u8,
+        steps: &mut u64,
+    ) -> u8 {
+        // SAFETY: as above.
+        unsafe {
+            ffi::enclave_run_to(
+                &raw mut self.registers,
+                &raw mut self.saved,
+                &raw mut self.control,
+                &raw mut self.time,
+                memory.as_mut_ptr(),
+                memory.len(),
+                layout,
+                lists.stamps.as_ptr(),
+                lists.stamps.len(),
+                lists.trace_stamps.as_ptr(),
+                lists.trace_stamps.len(),
+                lists.trace_words.as_ptr(),
+                lists.trace_words.len(),
+                stop,
+                budget,
+                end,
+                steps,
+            )
+        }
+    }
+
     /// The next lines of a run's transcript, as many as `out` has room for: how far it has come, and
     /// how many bytes were written.
     pub fn transcribe(

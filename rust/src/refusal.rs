@@ -29,26 +29,29 @@ pub enum Refusal {
     /// 10: the trace's stamps are too many, out of range or not rising, or its words are not equally
     /// many.
     Trace = 10,
+    /// 11: the stop address is odd.
+    Landmark = 11,
 }
 
 impl Refusal {
-    /// All ten, in the order in which a call tries those that concern it: that of their numbers, but
-    /// for *trace*, which comes right after *timetable*. Only the reader of a sheet tries *sheet* first,
-    /// and *line* before the others of a line.
-    pub const ALL: [Refusal; 10] = [
+    /// All eleven, in the order in which a call tries those that concern it: that of their numbers, but
+    /// for *trace*, which comes right after *timetable*, and *landmark*, right after *distance*. Only the
+    /// reader of a sheet tries *sheet* first, and *line* before the others of a line.
+    pub const ALL: [Refusal; 11] = [
         Refusal::Map,
         Refusal::Fence,
         Refusal::Timetable,
         Refusal::Trace,
         Refusal::Frame,
         Refusal::Distance,
+        Refusal::Landmark,
         Refusal::Clock,
         Refusal::Line,
         Refusal::Sheet,
         Refusal::Word,
     ];
 
-    /// Its number, 1 to 10.
+    /// Its number, 1 to 11.
     #[must_use]
     pub const fn number(self) -> u8 {
         self as u8
@@ -74,6 +77,7 @@ impl Refusal {
             Refusal::Sheet => "sheet",
             Refusal::Word => "word",
             Refusal::Trace => "trace",
+            Refusal::Landmark => "landmark",
         }
     }
 
@@ -111,6 +115,10 @@ impl Refusal {
                 "the trace's stamps are more than 4,096, not rising, or not 1 to 2^62, or its words are \
                  not equally many: sort the records, drop doubles, and give each stamp one word"
             }
+            Refusal::Landmark => {
+                "the stop address is odd, and pc is always even: give the address of an \
+                 instruction's first word"
+            }
         }
     }
 
@@ -118,7 +126,7 @@ impl Refusal {
     pub(crate) fn taken(answer: u8) -> Result<(), Refusal> {
         match answer {
             0 => Ok(()),
-            number => Err(Refusal::from_number(number).expect("an answer is 0 to 10")),
+            number => Err(Refusal::from_number(number).expect("an answer is 0 to 11")),
         }
     }
 }

@@ -5,7 +5,7 @@ use std::alloc::{GlobalAlloc, Layout as Block, System};
 use std::cell::Cell;
 use std::hint::black_box;
 
-use enclave::{Budget, Layout, Machine, Memory, Timetable, Trace, MEMORY_SIZE};
+use enclave::{Budget, Layout, Machine, Memory, StopAddress, Timetable, Trace, MEMORY_SIZE};
 
 thread_local! {
     static ALLOCATIONS: Cell<usize> = const { Cell::new(0) };
@@ -60,6 +60,9 @@ fn work() {
     machine
         .run(&mut memory, &timetable, &trace, budget)
         .unwrap();
+    let stop = StopAddress::new(machine.pc().wrapping_add(100)).unwrap();
+    let stopped = machine.run_to(&mut memory, &timetable, &trace, stop, budget);
+    assert_eq!(stopped.map(|s| s.steps), Ok(50));
     let mut lines = machine.transcript(&mut memory, &timetable, &trace, budget);
     assert!(lines.fill(&mut [0; 4096]) > 0);
 }

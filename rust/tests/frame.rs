@@ -202,6 +202,19 @@ fn call_without_a_step_keeps_the_saved_registers() {
     only_control_settles(Lent::step, 1);
     only_control_settles(Lent::run, 1);
     only_control_settles(Lent::run, 0);
+    only_control_settles(Lent::run_to, 1);
+    only_control_settles(Lent::run_to, 0);
+}
+
+#[test]
+fn run_at_its_stop_address_keeps_the_saved_registers() {
+    let at_the_address = |lent: &mut Lent| {
+        (lent.stop, lent.budget) = (0x4400, 20);
+        let answer = lent.run_to();
+        assert_eq!((lent.end, lent.steps), (b'A', 0));
+        answer
+    };
+    only_control_settles(at_the_address, 0);
 }
 
 #[test]

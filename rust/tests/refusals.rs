@@ -18,6 +18,10 @@ fn fresh_machine_is_taken() {
     let mut lent = Lent::fresh();
     assert_eq!((lent.step(), lent.kind, lent.cause), (0, b'R', 0));
     assert_eq!((lent.run(), lent.end, lent.steps), (0, b'S', 20));
+    let mut lent = Lent::fresh();
+    assert_eq!((lent.run_to(), lent.end, lent.steps), (0, b'S', 20));
+    let mut lent = edited(|l| l.stop = 0x4406);
+    assert_eq!((lent.run_to(), lent.end, lent.steps), (0, b'A', 3));
 }
 
 #[test]
@@ -99,9 +103,26 @@ fn refusal_5_distance() {
     for budget in [1_000_001, u64::MAX] {
         let lent = edited(|l| l.budget = budget);
         let mut ran = lent.clone();
-        assert_eq!((ran.run(), ran), (5, lent));
+        assert_eq!((ran.run(), &ran), (5, &lent));
+        lent.run_to_refused(5);
     }
     assert_eq!(edited(|l| l.budget = 1_000_000).run(), 0);
+    assert_eq!(edited(|l| l.budget = 1_000_000).run_to(), 0);
+}
+
+#[test]
+fn refusal_11_landmark() {
+    for stop in [0x0001, 0x4401, 0x4501, 0x8001, 0x8101, 0xFFFF] {
+        let odd = edited(|l| l.stop = stop);
+        odd.run_to_refused(11);
+        odd.steps();
+        assert_eq!(odd.clone().run(), 0);
+        edited(|l| (l.stop, l.machine.control[1]) = (stop, 1)).run_to_refused(11);
+        edited(|l| (l.stop, l.budget) = (stop, 0)).run_to_refused(11);
+    }
+    for stop in [0x0000, 0x4400, 0x8000, 0x8002, 0x8100, 0xFFFE] {
+        assert_eq!(edited(|l| l.stop = stop).run_to(), 0);
+    }
 }
 
 #[test]
@@ -120,6 +141,7 @@ fn refusals_come_in_their_order() {
         l.trace_words = vec![0];
         l.machine.registers[3] = 1;
         l.budget = 1_000_001;
+        l.stop = 0x4401;
         l.machine.time[0] = (1 << 62) + 1;
     });
     lent.refused(1);
@@ -133,7 +155,11 @@ fn refusals_come_in_their_order() {
     lent.refused(4);
     lent.machine.registers[3] = 0;
     assert_eq!((lent.clone().run(), lent.clone().step()), (5, 6));
+    lent.run_to_refused(5);
     lent.budget = 0;
+    assert_eq!((lent.clone().run(), lent.clone().step()), (6, 6));
+    lent.run_to_refused(11);
+    lent.stop = 0x4400;
     lent.refused(6);
 }
 
@@ -211,14 +237,15 @@ fn numbers_and_words() {
     let words = Refusal::ALL.map(Refusal::word).join(" ");
     assert_eq!(
         words,
-        "map fence timetable trace frame distance clock line sheet word"
+        "map fence timetable trace frame distance landmark clock line sheet word"
     );
     let numbers = Refusal::ALL.map(Refusal::number);
-    assert_eq!(numbers, [1, 2, 3, 10, 4, 5, 6, 7, 8, 9]);
+    assert_eq!(numbers, [1, 2, 3, 10, 4, 5, 11, 6, 7, 8, 9]);
     assert_eq!(Refusal::from_number(9), Some(Refusal::Word));
     assert_eq!(Refusal::from_number(10), Some(Refusal::Trace));
+    assert_eq!(Refusal::from_number(11), Some(Refusal::Landmark));
     assert_eq!(
-        (Refusal::from_number(0), Refusal::from_number(11)),
+        (Refusal::from_number(0), Refusal::from_number(12)),
         (None, None)
     );
 }

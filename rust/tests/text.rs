@@ -1,6 +1,8 @@
 //! What refusals, causes, registers and instructions are as text.
 
-use enclave::{Cause, Instruction, Operand, Operation, Refusal, Register, Setup, SheetRefusal};
+use enclave::{
+    Cause, Instruction, Operand, Operation, Refusal, Register, Setup, SheetRefusal, StopAddress,
+};
 
 fn register(number: u8) -> Register {
     Register::new(number).unwrap()
@@ -28,7 +30,22 @@ fn sentences_differ() {
     texts.extend(Cause::ALL.map(|c| c.to_string()));
     texts.sort();
     texts.dedup();
-    assert_eq!(texts.len(), 10 + 8);
+    assert_eq!(texts.len(), 11 + 8);
+}
+
+#[test]
+fn odd_stop_address_is_told() {
+    assert_eq!(
+        StopAddress::new(0x4405).unwrap_err().to_string(),
+        "the stop address is odd, and pc is always even: give the address of an instruction's first word"
+    );
+}
+
+#[test]
+fn stop_address_is_four_digits() {
+    let text = |address| StopAddress::new(address).unwrap().to_string();
+    assert_eq!(text(0x4404), "4404");
+    assert_eq!(text(0x00FE), "00FE");
 }
 
 #[test]

@@ -6,7 +6,7 @@ use std::thread;
 
 use enclave::{
     Budget, Cause, End, Instruction, Kind, Layout, Machine, MachineFields, Memory, Refusal,
-    Register, Rights, Setup, SheetRefusal, Stop, Timetable, Trace, Transcript,
+    Register, Rights, Setup, SheetRefusal, Stop, StopAddress, Timetable, Trace, Transcript,
 };
 use support::worked_sheet;
 
@@ -16,7 +16,14 @@ fn goes_to_threads<T: Send + Sync>() {}
 fn types_are_send_and_sync() {
     goes_to_threads::<(Machine, Memory, Layout, Timetable<'_>, Budget)>();
     goes_to_threads::<(Trace<'_>, Transcript<'_>)>();
-    goes_to_threads::<(MachineFields, Setup, SheetRefusal, Stop, Rights)>();
+    goes_to_threads::<(
+        MachineFields,
+        Setup,
+        SheetRefusal,
+        Stop,
+        StopAddress,
+        Rights,
+    )>();
     goes_to_threads::<(Kind, Cause, End, Refusal, Instruction, Register)>();
 }
 

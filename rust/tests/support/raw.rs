@@ -3,7 +3,7 @@
 
 use enclave::raw::{self, Lists, Numbers};
 
-/// All that step and run are lent.
+/// All that step, run and `run_to` are lent.
 #[derive(Clone, PartialEq, Debug)]
 pub struct Lent {
     pub machine: Numbers,
@@ -12,6 +12,7 @@ pub struct Lent {
     pub stamps: Vec<u64>,
     pub trace_stamps: Vec<u64>,
     pub trace_words: Vec<u16>,
+    pub stop: u16,
     pub budget: u64,
     pub kind: u8,
     pub cause: u8,
@@ -20,7 +21,8 @@ pub struct Lent {
 }
 
 impl Lent {
-    /// A machine at the start of document 01's layout, with NOPs from 4400; answers are marked.
+    /// A machine at the start of document 01's layout, with NOPs from 4400, the first 20 of which its runs
+    /// make, far from the stop address; answers are marked.
     pub fn fresh() -> Lent {
         let mut memory = vec![0; 65536];
         memory[0xFFFE..].copy_from_slice(&[0x00, 0x44]);
@@ -39,6 +41,7 @@ impl Lent {
             stamps: vec![600],
             trace_stamps: vec![],
             trace_words: vec![],
+            stop: 0x4500,
             budget: 20,
             kind: 0xAA,
             cause: 0xAA,
@@ -80,15 +83,39 @@ impl Lent {
         )
     }
 
+    pub fn run_to(&mut self) -> u8 {
+        let lists = Lists {
+            stamps: &self.stamps,
+            trace_stamps: &self.trace_stamps,
+            trace_words: &self.trace_words,
+        };
+        self.machine.run_to(
+            &mut self.memory,
+            &self.layout,
+            lists,
+            self.stop,
+            self.budget,
+            &mut self.end,
+            &mut self.steps,
+        )
+    }
+
     pub fn access(&mut self, from: u16, address: u16) -> u8 {
         raw::access(&self.layout, from, address, &mut self.kind)
     }
 
-    /// Step and run answer this refusal and alter nothing.
+    /// Step, run and `run_to` answer this refusal and alter nothing.
     pub fn refused(&self, number: u8) {
         let mut lent = self.clone();
         assert_eq!((lent.step(), &lent), (number, self), "step");
         assert_eq!((lent.run(), &lent), (number, self), "run");
+        self.run_to_refused(number);
+    }
+
+    /// The same of `run_to` alone.
+    pub fn run_to_refused(&self, number: u8) {
+        let mut lent = self.clone();
+        assert_eq!((lent.run_to(), &lent), (number, self), "run_to");
     }
 
     /// Step is taken.
