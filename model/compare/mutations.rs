@@ -93,4 +93,64 @@ pub const MUTATIONS: &[Mutation] = &[
     mutation!("record_stamp_tested_before_its_word", "sheet.rs":
         "let word = hexadecimal(fields[2]).ok_or((7, number))?;\n            // 4,097" =>
         "if !follows(&trace_stamps, stamp) {\n                return Err((10, number));\n            }\n            let word = hexadecimal(fields[2]).ok_or((7, number))?;\n            // 4,097"),
+    mutation!("step_made_at_the_address",
+        "calls.rs": "stop == Stop::At(self.registers[PC])" => "false",
+        "calls.rs": "self.one_step(memory, layout, lists);\n            steps += 1;" =>
+        "let there = stop == Stop::At(self.registers[PC]);\n            self.one_step(memory, layout, lists);\n            steps += 1;\n            if there {\n                return Ok((End::Address, steps));\n            }"),
+    mutation!("step_at_the_address_not_counted",
+        "calls.rs": "stop == Stop::At(self.registers[PC])" => "false",
+        "calls.rs": "self.one_step(memory, layout, lists);\n            steps += 1;" =>
+        "let there = stop == Stop::At(self.registers[PC]);\n            self.one_step(memory, layout, lists);\n            if there {\n                return Ok((End::Address, steps));\n            }\n            steps += 1;"),
+    mutation!("address_counted_as_a_step", "calls.rs":
+        "return Ok((end, steps));" => "return Ok((end, steps + (end == End::Address) as u64));"),
+    mutation!("spent_before_address", "calls.rs":
+        "} else if stop == Stop::At(self.registers[PC]) {\n            Some(End::Address)\n        } else if steps == budget {\n            Some(End::Spent)" =>
+        "} else if steps == budget {\n            Some(End::Spent)\n        } else if stop == Stop::At(self.registers[PC]) {\n            Some(End::Address)"),
+    mutation!("budget_0_spent_at_the_address", "calls.rs":
+        "stop == Stop::At(self.registers[PC])" => "budget > 0 && stop == Stop::At(self.registers[PC])"),
+    mutation!("address_before_clock", "calls.rs":
+        "} else if self.clock > CLOCK_LIMIT {\n            Some(End::Clock)\n        } else if stop == Stop::At(self.registers[PC]) {\n            Some(End::Address)" =>
+        "} else if stop == Stop::At(self.registers[PC]) {\n            Some(End::Address)\n        } else if self.clock > CLOCK_LIMIT {\n            Some(End::Clock)"),
+    mutation!("address_before_halted", "calls.rs":
+        "if self.halted {\n            Some(End::Halted)" =>
+        "if stop == Stop::At(self.registers[PC]) {\n            Some(End::Address)\n        } else if self.halted {\n            Some(End::Halted)"),
+    mutation!("address_not_tested_before_the_first_step", "calls.rs":
+        "stop == Stop::At(self.registers[PC])" => "steps > 0 && stop == Stop::At(self.registers[PC])"),
+    mutation!("address_tested_every_other_step", "calls.rs":
+        "stop == Stop::At(self.registers[PC])" => "steps % 2 == 0 && stop == Stop::At(self.registers[PC])"),
+    mutation!("previous_address_compared", "calls.rs":
+        "stop == Stop::At(self.registers[PC])" => "stop == Stop::At(self.previous)"),
+    mutation!("second_words_address_compared", "calls.rs":
+        "stop == Stop::At(self.registers[PC])" => "stop == Stop::At(self.registers[PC].wrapping_add(2))"),
+    mutation!("second_word_met_too", "calls.rs":
+        "self.one_step(memory, layout, lists);\n            steps += 1;" =>
+        "let pc = self.registers[PC];\n            let long = crate::instruction::begins(crate::memory::read_word(memory, pc)) == Some(2);\n            if long && stop == Stop::At(pc.wrapping_add(2)) {\n                return Ok((End::Address, steps));\n            }\n            self.one_step(memory, layout, lists);\n            steps += 1;"),
+    mutation!("service_and_reset_pass_the_address", "calls.rs":
+        "stop == Stop::At(self.registers[PC])" =>
+        "(steps == 0 || self.previous != crate::state::VECTOR) && stop == Stop::At(self.registers[PC])"),
+    mutation!("address_0_is_none", "calls.rs":
+        "stop == Stop::At(self.registers[PC])" => "self.registers[PC] != 0 && stop == Stop::At(self.registers[PC])"),
+    mutation!("none_is_address_0", "calls.rs":
+        "stop == Stop::At(self.registers[PC])" =>
+        "stop == Stop::At(self.registers[PC]) || stop == Stop::Never && self.registers[PC] == 0"),
+    mutation!("address_in_a_section_refused", "calls.rs":
+        "if address % 2 == 1)" => "if address % 2 == 1 || !layout.outside(address))"),
+    mutation!("odd_address_taken", "calls.rs":
+        "if address % 2 == 1)" => "if false)"),
+    mutation!("odd_address_taken_as_even",
+        "calls.rs": "if address % 2 == 1)" => "if false)",
+        "calls.rs": "stop == Stop::At(self.registers[PC])" =>
+        "matches!(stop, Stop::At(address) if address & 0xFFFE == self.registers[PC])"),
+    mutation!("odd_address_taken_halted", "calls.rs":
+        "if matches!(stop, Stop::At(address)" => "if !self.halted && matches!(stop, Stop::At(address)"),
+    mutation!("landmark_tested_after_clock", "calls.rs":
+        "if matches!(stop, Stop::At(address) if address % 2 == 1) {\n            return Some(11);\n        }\n        if self.clock > CLOCK_LIMIT {\n            return Some(6);\n        }" =>
+        "if self.clock > CLOCK_LIMIT {\n            return Some(6);\n        }\n        if matches!(stop, Stop::At(address) if address % 2 == 1) {\n            return Some(11);\n        }"),
+    mutation!("landmark_tested_before_distance", "calls.rs":
+        "if budget.is_some_and(|budget| budget > MOST_STEPS) {\n            return Some(5);\n        }\n        if matches!(stop, Stop::At(address) if address % 2 == 1) {\n            return Some(11);\n        }" =>
+        "if matches!(stop, Stop::At(address) if address % 2 == 1) {\n            return Some(11);\n        }\n        if budget.is_some_and(|budget| budget > MOST_STEPS) {\n            return Some(5);\n        }"),
+    mutation!("landmark_tested_before_frame",
+        "calls.rs": "if matches!(stop, Stop::At(address) if address % 2 == 1) {\n            return Some(11);\n        }\n" => "",
+        "calls.rs": "if !self.frame_valid(layout) {" =>
+        "if matches!(stop, Stop::At(address) if address % 2 == 1) {\n            return Some(11);\n        }\n        if !self.frame_valid(layout) {"),
 ];

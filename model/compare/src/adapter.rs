@@ -3,7 +3,7 @@
 
 use super::model::{
     decode, encode, read_sheet, Instruction, Layout, Machine, Operand, Operation, Right,
-    SavedContext, Trace,
+    SavedContext, Stop, Trace,
 };
 use crate::rides::Ride;
 use crate::subject::{
@@ -14,6 +14,7 @@ pub const SUBJECT: Subject = Subject {
     start,
     step,
     run,
+    run_to,
     access,
     read,
     write,
@@ -87,9 +88,17 @@ fn step(state: &mut State, memory: &mut [u8], lent: Lent) -> Stepped {
 }
 
 fn run(state: &mut State, memory: &mut [u8], lent: Lent, budget: u64) -> Ran {
+    stopping(state, memory, lent, Stop::Never, budget)
+}
+
+fn run_to(state: &mut State, memory: &mut [u8], lent: Lent, stop: u16, budget: u64) -> Ran {
+    stopping(state, memory, lent, Stop::At(stop), budget)
+}
+
+fn stopping(state: &mut State, memory: &mut [u8], lent: Lent, stop: Stop, budget: u64) -> Ran {
     let mut machine = machine(state);
     let layout = Layout::from(*lent.layout);
-    let (end, steps) = machine.run(memory, &layout, lent.stamps, trace(lent), budget)?;
+    let (end, steps) = machine.run(memory, &layout, lent.stamps, trace(lent), stop, budget)?;
     *state = fields(&machine);
     Ok((end.letter() as u8, steps))
 }

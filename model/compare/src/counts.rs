@@ -1,6 +1,7 @@
 //! How often each kind, cause, end, refusal and event occurred. A count of 0 is a failure.
 
 use crate::frames::FAULTS;
+use crate::landmarks;
 use crate::rides::WAYS;
 
 /// What the comparison must have met beside kinds, causes, ends and refusals.
@@ -42,6 +43,24 @@ pub enum Event {
     NearLimit,
     EmptyRun,
     LongRun,
+    Met,
+    MetAtOnce,
+    MetWithout,
+    MetAsSpent,
+    MetInPlain,
+    MetInPadded,
+    MetAfterReset,
+    MetInside,
+    MetInData,
+    MetAtZero,
+    MetAtLimit,
+    NeverMet,
+    ClockThere,
+    HaltedThere,
+    StepToHalt,
+    OnFromThere,
+    OddHalted,
+    OddLate,
     SheetTaken,
     SheetRefused,
     FullSheet,
@@ -55,6 +74,8 @@ pub enum Event {
     PairWithVisit,
     PairWithPadded,
     PairWithRecordPadded,
+    PairWithStop,
+    ListedStop,
     EquallyMany,
     Sighting,
     CyclesLaw,
@@ -65,10 +86,11 @@ pub enum Event {
     OnceLaw,
     DurationLaw,
     RunLaw,
+    StopLaw,
     Question,
 }
 
-const EVENTS: [&str; 60] = [
+const EVENTS: [&str; 81] = [
     "visit entered",
     "padded right after return padding",
     "plain interrupt while a visit is held",
@@ -105,6 +127,24 @@ const EVENTS: [&str; 60] = [
     "clock within 3,000 of 2^62",
     "run with budget 0",
     "run with budget 1,000,000",
+    "run ended at its stop address",
+    "stop address met before the first step",
+    "stop address met with budget 0",
+    "stop address met as the budget is spent",
+    "stop address met as a plain service starts",
+    "stop address met as a padded or chained service starts",
+    "stop address met after a reset",
+    "stop address met inside",
+    "stop address met in data",
+    "stop address met at 0",
+    "stop address met at the clock 2^62",
+    "stop address never met",
+    "clock above 2^62 at the stop address: T",
+    "halted at the stop address: H",
+    "halted by a step to the stop address: H",
+    "run or step on from the stop address",
+    "odd stop address on a halted machine: 11",
+    "odd stop address and clock above 2^62: 11",
     "sheet taken",
     "sheet refused",
     "sheet of 32,768 bytes taken",
@@ -118,6 +158,8 @@ const EVENTS: [&str; 60] = [
     "secrecy: pairs with an ended visit",
     "secrecy: pairs with an ended visit and a padded interrupt",
     "secrecy: pairs with an ended visit and a padded record",
+    "secrecy: pairs with a run that ended at its stop address",
+    "secrecy: runs with a stop address in the lists",
     "secrecy: tests of equally many sightings",
     "secrecy: sightings compared",
     "law: 1 to 23 cycles",
@@ -128,11 +170,12 @@ const EVENTS: [&str; 60] = [
     "law: records' stamps in the timetable change nothing",
     "law: duration of an ended visit",
     "law: run of n is n steps",
+    "law: run to an address and on is the run without",
     "read, write, access",
 ];
 
 const KINDS: &[u8; 7] = b"RIPCBXH";
-const ENDS: &[u8; 3] = b"HTS";
+const ENDS: &[u8; 4] = b"HTAS";
 
 pub const ROWS: [&str; 16] = [
     "HLT", "IN", "OUT", "JZ", "RETI", "NOP", "JMP", "MOV", "MOV@", "MOV0()", "MOV#", "ADD", "SUB",
@@ -150,10 +193,11 @@ pub struct Counts {
     pub noise_kept: u64,
     kinds: [u64; 7],
     causes: [u64; 8],
-    ends: [u64; 3],
-    refusals: [u64; 10],
+    ends: [u64; 4],
+    refusals: [u64; 11],
     faults: [u64; FAULTS.len()],
     ways: [u64; WAYS.len()],
+    before_landmark: [u64; landmarks::BEFORE.len()],
     rows_inside: [u64; 16],
     rows_elsewhere: [u64; 16],
     events: [u64; EVENTS.len()],
@@ -169,10 +213,11 @@ impl Counts {
             noise_kept: 0,
             kinds: [0; 7],
             causes: [0; 8],
-            ends: [0; 3],
-            refusals: [0; 10],
+            ends: [0; 4],
+            refusals: [0; 11],
             faults: [0; FAULTS.len()],
             ways: [0; WAYS.len()],
+            before_landmark: [0; landmarks::BEFORE.len()],
             rows_inside: [0; 16],
             rows_elsewhere: [0; 16],
             events: [0; EVENTS.len()],
@@ -195,7 +240,7 @@ impl Counts {
     }
 
     pub fn refusal(&mut self, number: u8) {
-        if (1..=10).contains(&number) {
+        if (1..=11).contains(&number) {
             self.refusals[number as usize - 1] += 1;
         }
     }
@@ -206,6 +251,11 @@ impl Counts {
 
     pub fn way(&mut self, way: usize) {
         self.ways[way] += 1;
+    }
+
+    /// An odd stop address with an earlier refusal, by the place of that.
+    pub fn before_landmark(&mut self, place: usize) {
+        self.before_landmark[place] += 1;
     }
 
     /// A row that ran, inside or elsewhere.
@@ -240,13 +290,18 @@ impl Counts {
         let named = |word: &str, names: &[&str]| -> Vec<String> {
             names.iter().map(|name| format!("{word}{name}")).collect()
         };
+        let earlier = landmarks::BEFORE
+            .iter()
+            .map(|number| format!("odd stop address refused by {number} before"))
+            .collect();
         vec![
             group(true, letter("kind", KINDS), &self.kinds),
             group(true, number("cause", 8), &self.causes),
             group(true, letter("end", ENDS), &self.ends),
-            group(true, number("refusal", 10), &self.refusals),
+            group(true, number("refusal", 11), &self.refusals),
             group(false, named("refusal 4: ", &FAULTS), &self.faults),
             group(false, named("refusal 10: ", &WAYS), &self.ways),
+            group(false, earlier, &self.before_landmark),
             // HLT, IN and OUT inside are resets.
             group(true, named("inside ", &ROWS[3..]), &self.rows_inside[3..]),
             group(true, named("elsewhere ", &ROWS), &self.rows_elsewhere),

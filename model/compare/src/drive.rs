@@ -2,9 +2,10 @@
 
 use crate::counts::{Counts, Event};
 use crate::frames;
+use crate::landmarks::Landmark;
 use crate::random::Random;
 use crate::rides::Ride;
-use crate::subject::{Addresses, Lent, State, Subject, CLOCK_LIMIT, MEMORY_BYTES};
+use crate::subject::{Addresses, Lent, Ran, State, Subject, CLOCK_LIMIT, MEMORY_BYTES};
 use crate::watch;
 use crate::world::{Act, Begin, Call, Twist, World};
 
@@ -22,6 +23,8 @@ struct Pair<'a> {
     state: State,
     library_memory: Vec<u8>,
     model_memory: Vec<u8>,
+    /// Whether the last call was a run that ended at its stop address.
+    stopped: bool,
 }
 
 /// What a call is lent.
@@ -34,6 +37,8 @@ struct Loan {
     /// In which way the frame is broken, and the trace.
     fault: Option<usize>,
     way: Option<usize>,
+    /// The stop address, where the call has one.
+    stop: Option<u16>,
 }
 
 /// Both answers to a call: what was told, or the refusal.
@@ -55,6 +60,7 @@ pub fn drive(sides: Sides, world: &World, counts: &mut Counts) -> Result<(), Str
         state,
         library_memory: world.memory.clone(),
         model_memory: world.memory.clone(),
+        stopped: false,
     };
     for (number, call) in world.calls.iter().enumerate() {
         let stuck = pair.state.halted == 1 || pair.state.clock > CLOCK_LIMIT;
@@ -133,43 +139,64 @@ fn note(
         counts.noise_kept += 1;
     }
     match (answers.library, act) {
-        (Err(number), _) => {
-            counts.refusal(number);
-            if let (4, Some(fault)) = (number, loan.fault) {
-                counts.fault(fault);
-            }
-            if let (10, Some(way)) = (number, loan.way) {
-                counts.way(way);
-            }
-            counts.events(
-                Event::ThreeBeforeTen,
-                (number == 3 && loan.way.is_some()) as u64,
-            );
-            counts.events(
-                Event::TenBeforeFour,
-                (number == 10 && loan.fault.is_some()) as u64,
-            );
-        }
+        (Err(number), _) => note_refusal(number, loan, counts),
         (Ok((kind, cause)), Act::Step) => {
             counts.steps += (loan.state.halted == 0) as u64;
             counts.one_by_one += (loan.state.halted == 0) as u64;
             counts.kind(kind, cause as u8);
             before.watch(state, kind, cause as u8, counts)?;
         }
-        (Ok((end, steps)), Act::Run(budget)) => {
+        (Ok((end, steps)), Act::Run(budget) | Act::RunTo(_, budget)) => {
             counts.steps += steps;
             counts.end(end);
             counts.events(Event::EmptyRun, (budget == 0) as u64);
             counts.events(Event::LongRun, (budget == 1_000_000) as u64);
         }
     }
+    note_stop(act, loan, answers, counts);
     Ok(())
+}
+
+/// Counts what a run had to do with its stop address.
+fn note_stop(act: Act, loan: &Loan, answers: &Answers, counts: &mut Counts) {
+    let (Act::RunTo(_, budget), Some(stop)) = (act, loan.stop) else {
+        return;
+    };
+    let landmark = Landmark {
+        layout: &loan.layout,
+        stop,
+        budget,
+        before: &loan.state,
+    };
+    match answers.library {
+        Ok((end, steps)) => landmark.ended(&answers.library_state, end, steps, counts),
+        Err(number) => landmark.refused(number, counts),
+    }
+}
+
+/// Counts a refusal and what was wrong.
+fn note_refusal(number: u8, loan: &Loan, counts: &mut Counts) {
+    counts.refusal(number);
+    if let (4, Some(fault)) = (number, loan.fault) {
+        counts.fault(fault);
+    }
+    if let (10, Some(way)) = (number, loan.way) {
+        counts.way(way);
+    }
+    counts.events(
+        Event::ThreeBeforeTen,
+        (number == 3 && loan.way.is_some()) as u64,
+    );
+    counts.events(
+        Event::TenBeforeFour,
+        (number == 10 && loan.fault.is_some()) as u64,
+    );
 }
 
 impl Pair<'_> {
     /// One call on both sides.
     fn call(&mut self, call: &Call, counts: &mut Counts) -> Result<(), String> {
-        let loan = self.loan(call);
+        let mut loan = self.loan(call);
         let stamps = loan
             .stamps
             .as_deref()
@@ -182,6 +209,7 @@ impl Pair<'_> {
             records: ride.lent(),
         };
         let before = watch::Before::new(&loan.state, &self.library_memory, lent);
+        loan.stop = self.stop(call.act, &loan.state, lent);
         let answers = self.ask(call.act, &loan, lent);
         self.compare(&loan, &answers)?;
         if stamps != loan.stamps.as_deref().unwrap_or(&self.world.stamps) {
@@ -191,10 +219,30 @@ impl Pair<'_> {
             return Err("the library altered the trace".into());
         }
         counts.calls += 1;
-        if answers.library.is_ok() {
-            self.state = answers.library_state;
-        }
+        self.go_on(&loan, &answers, counts);
         note(call.act, &loan, &answers, before, counts)
+    }
+
+    /// The stop address of a call, found on the model where it is one that the run comes to.
+    fn stop(&self, act: Act, state: &State, lent: Lent) -> Option<u16> {
+        match act {
+            Act::RunTo(aim, _) => {
+                Some(aim.address(self.sides.model, state, &self.model_memory, lent))
+            }
+            Act::Step | Act::Run(_) => None,
+        }
+    }
+
+    /// Goes on from where a call left the machine.
+    fn go_on(&mut self, loan: &Loan, answers: &Answers, counts: &mut Counts) {
+        let Ok((end, _)) = answers.library else {
+            return;
+        };
+        let moved = answers.library_state.clock != loan.state.clock;
+        let on = self.stopped && loan.state == self.state && moved;
+        counts.events(Event::OnFromThere, on as u64);
+        self.stopped = loan.stop.is_some() && end == b'A';
+        self.state = answers.library_state;
     }
 
     /// What this call is lent, with its twists.
@@ -207,6 +255,7 @@ impl Pair<'_> {
             ride: None,
             fault: None,
             way: None,
+            stop: None,
         };
         for twist in &call.twists {
             match twist {
@@ -223,6 +272,10 @@ impl Pair<'_> {
                     loan.way = Some(*way);
                 }
                 Twist::State(state) => loan.state = *state,
+                Twist::Late(clock) => {
+                    loan.state.clock = *clock;
+                    loan.state.alarm = 0;
+                }
                 Twist::Fault(fault, seed) => {
                     let mut random = Random::new(*seed, 0);
                     frames::break_frame(&mut random, &self.world.scene, &mut loan.state, *fault);
@@ -241,18 +294,21 @@ impl Pair<'_> {
         let (mut library_state, mut model_state) = (loan.state, loan.state);
         let library_memory = &mut self.library_memory[..loan.size];
         let model_memory = &mut self.model_memory[..loan.size];
-        let (library, model) = match act {
-            Act::Step => {
-                let library = (self.sides.library.step)(&mut library_state, library_memory, lent);
-                let model = (self.sides.model.step)(&mut model_state, model_memory, lent);
-                let wide = |(kind, cause): (u8, u8)| (kind, cause as u64);
-                (library.map(wide), model.map(wide))
+        let made = |subject: &Subject, state: &mut State, memory: &mut [u8]| -> Ran {
+            match (act, loan.stop) {
+                (Act::Run(budget) | Act::RunTo(_, budget), None) => {
+                    (subject.run)(state, memory, lent, budget)
+                }
+                (Act::Run(budget) | Act::RunTo(_, budget), Some(stop)) => {
+                    (subject.run_to)(state, memory, lent, stop, budget)
+                }
+                (Act::Step, _) => {
+                    (subject.step)(state, memory, lent).map(|(kind, cause)| (kind, cause as u64))
+                }
             }
-            Act::Run(budget) => (
-                (self.sides.library.run)(&mut library_state, library_memory, lent, budget),
-                (self.sides.model.run)(&mut model_state, model_memory, lent, budget),
-            ),
         };
+        let library = made(self.sides.library, &mut library_state, library_memory);
+        let model = made(self.sides.model, &mut model_state, model_memory);
         Answers {
             library,
             model,
@@ -266,8 +322,8 @@ impl Pair<'_> {
         let (library, model) = (answers.library, answers.model);
         if library != model {
             return Err(format!(
-                "library answers {library:?}, model {model:?}, on {:?}",
-                loan.state
+                "library answers {library:?}, model {model:?}, to {:04X?}, on {:?}",
+                loan.stop, loan.state
             ));
         }
         let expected = expected_state(loan, answers);

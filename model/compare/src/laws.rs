@@ -23,6 +23,7 @@ pub fn laws(
     durations(course, lent, counts)?;
     lands(machine, memory, lent, course)?;
     counts.event(Event::RunLaw);
+    landmarks(machine, memory, lent, course, counts)?;
     once(machine, memory, lent, course, counts)
 }
 
@@ -162,6 +163,76 @@ fn lands(machine: &Subject, memory: &[u8], lent: Lent, course: &Course) -> Resul
         ));
     }
     Ok(())
+}
+
+/// Runs to some addresses, and on from there.
+fn landmarks(
+    machine: &Subject,
+    memory: &[u8],
+    lent: Lent,
+    course: &Course,
+    counts: &mut Counts,
+) -> Result<(), String> {
+    let Some(last) = course.steps.last() else {
+        return Ok(());
+    };
+    let mut pcs: Vec<u16> = course.steps.iter().map(at).collect();
+    pcs.push(last.after.registers[PC]);
+    let count = pcs.len() - 1;
+    let stops = [pcs[0], pcs[count / 3], pcs[2 * count / 3], pcs[count]];
+    for stop in stops.into_iter().chain([lent.layout[0], lent.layout[4]]) {
+        let steps = pcs.iter().position(|&pc| pc == stop).unwrap_or(count);
+        let end = match pcs[steps] == stop {
+            _ if steps == count && last.after.halted == 1 => b'H',
+            true => b'A',
+            false => b'S',
+        };
+        // As many steps as without it, and just enough.
+        for budget in [count, steps] {
+            to_and_on(machine, memory, lent, course, (stop, budget as u64))
+                .and_then(|ran| same_end(ran, (end, steps as u64)))
+                .map_err(|text| format!("a run to {stop:04X} of at most {budget}: {text}"))?;
+        }
+        counts.events(Event::StopLaw, (end == b'A') as u64);
+    }
+    Ok(())
+}
+
+/// Where a step began.
+fn at(step: &Made) -> u16 {
+    step.before.registers[PC]
+}
+
+fn same_end(got: (u8, u64), expected: (u8, u64)) -> Result<(), String> {
+    if got == expected {
+        return Ok(());
+    }
+    let [one, other] = [got, expected].map(|(end, steps)| format!("{} {steps}", end as char));
+    Err(format!("{one}, by the steps {other}"))
+}
+
+/// A run to an address from the start, and on without one: together they are the run without it.
+/// The answer is the first one's.
+fn to_and_on(
+    machine: &Subject,
+    memory: &[u8],
+    lent: Lent,
+    course: &Course,
+    (stop, budget): (u16, u64),
+) -> Result<(u8, u64), String> {
+    let mut memory = memory.to_vec();
+    let refused = |number: u8| format!("refused by {number}");
+    let mut state = (machine.start)(&memory).map_err(refused)?;
+    let ran = (machine.run_to)(&mut state, &mut memory, lent, stop, budget).map_err(refused)?;
+    let left = (course.steps.len() as u64).saturating_sub(ran.1);
+    (machine.run)(&mut state, &mut memory, lent, left).map_err(refused)?;
+    let landed = course.steps.last().map_or(state, |step| step.after);
+    if state != landed || memory != course.memory {
+        return Err(format!(
+            "it and what is left land at {state:?}, the steps at {landed:?}"
+        ));
+    }
+    Ok(ran)
 }
 
 /// "One that equals a timetable stamp counts once": with the stamps of all records put into the

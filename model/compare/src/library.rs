@@ -16,6 +16,7 @@ pub const LIBRARY: Subject = Subject {
     start,
     step,
     run,
+    run_to,
     access,
     read,
     write,
@@ -97,6 +98,25 @@ fn run(state: &mut State, memory: &mut [u8], lent: Lent, budget: u64) -> Ran {
         memory,
         lent.layout,
         lists(lent),
+        budget,
+        &mut end,
+        &mut steps,
+    );
+    *state = state_of(&machine);
+    match number {
+        0 => Ok((end, steps)),
+        _ => refused(number, (end, steps) == (BLANK, BLANK_NUMBER)),
+    }
+}
+
+fn run_to(state: &mut State, memory: &mut [u8], lent: Lent, stop: u16, budget: u64) -> Ran {
+    let mut machine = numbers(state);
+    let (mut end, mut steps) = (BLANK, BLANK_NUMBER);
+    let number = machine.run_to(
+        memory,
+        lent.layout,
+        lists(lent),
+        stop,
         budget,
         &mut end,
         &mut steps,

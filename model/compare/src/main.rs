@@ -11,12 +11,14 @@
 //! sheets. The program fails on a difference, on a count of 0 in its table, and on a mutant of
 //! the model that it does not see.
 
+mod aims;
 mod calm;
 mod counts;
 mod course;
 mod drive;
 mod frames;
 mod instructions;
+mod landmarks;
 mod laws;
 mod layouts;
 mod library;

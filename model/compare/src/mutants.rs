@@ -14,7 +14,7 @@ use crate::{library, questions, reading};
 const MOST: u64 = 6000;
 
 /// Mutants that break a law: the test of the laws must see each, as a machine by itself.
-const UNLAWFUL: [&str; 10] = [
+const UNLAWFUL: [&str; 22] = [
     "no_return_padding",
     "chaining_looks_at_gie",
     "gie_writable_inside",
@@ -25,6 +25,18 @@ const UNLAWFUL: [&str; 10] = [
     "words_by_the_timetables_place",
     "records_ring_no_request",
     "record_wins_over_earlier_stamp",
+    "step_made_at_the_address",
+    "step_at_the_address_not_counted",
+    "address_counted_as_a_step",
+    "spent_before_address",
+    "budget_0_spent_at_the_address",
+    "address_before_halted",
+    "address_not_tested_before_the_first_step",
+    "address_tested_every_other_step",
+    "previous_address_compared",
+    "second_words_address_compared",
+    "second_word_met_too",
+    "service_and_reset_pass_the_address",
 ];
 
 /// Mutants that tell a secret: the test of secrecy must see each, as a machine by itself.
@@ -37,7 +49,7 @@ const TELLING: [&str; 3] = [
 /// Tries every mutant; a line for each. The error names those that were not seen.
 pub fn mutants(seed: u64) -> Result<String, String> {
     let mut text = format!(
-        "{:<36} {:<12} {:<12} secrecy\n",
+        "{:<42} {:<12} {:<12} secrecy\n",
         "mutant, where it was seen", "comparison", "laws"
     );
     let mut survivors = Vec::new();
@@ -53,7 +65,7 @@ pub fn mutants(seed: u64) -> Result<String, String> {
             Some(None) => "not seen",
             Some(Some(place)) => place,
         });
-        text += &format!("{name:<36} {:<12} {:<12} {}\n", told[0], told[1], told[2]);
+        text += &format!("{name:<42} {:<12} {:<12} {}\n", told[0], told[1], told[2]);
         if seen.contains(&Some(None)) {
             survivors.push(*name);
         }

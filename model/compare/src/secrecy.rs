@@ -57,10 +57,11 @@ impl Pair {
         };
         let stamps = timetables::taken(&mut random, 0);
         let ride = rides::taken(&mut random, &twins.scene, 0, &stamps);
-        // The lists may differ in length.
+        // The lists may differ in calls and length.
         let bounds = [(); 2].map(|_| Bound {
             clock: random.between(300, 1500),
             steps: 600,
+            calls: random.next(),
         });
         Pair {
             twins,
@@ -215,6 +216,7 @@ fn compare(first: &Course, second: &Course, lent: Lent, counts: &mut Counts) -> 
     let both = [first, second].map(|run| visits(&run.steps, layout));
     let limit = premise_limit(&both[0], &both[1]);
     count_pair(first, &both, limit, lent, counts);
+    count_stops([first, second], counts);
     // Just below the end of the shorter run both are over; above it, the sightings agree as far as
     // both go.
     let last = |run: &Course| run.steps.last().map_or(0, |step| step.after.clock);
@@ -274,4 +276,11 @@ fn count_pair(first: &Course, both: &[Vec<Visit>; 2], limit: u64, lent: Lent, co
     if first.steps.iter().any(of_record) {
         counts.event(Event::PairWithRecordPadded);
     }
+}
+
+/// Counts the runs with a stop address in both lists.
+fn count_stops(lists: [&Course; 2], counts: &mut Counts) {
+    counts.events(Event::ListedStop, lists.iter().map(|list| list.runs).sum());
+    let met = lists.iter().any(|list| list.met > 0);
+    counts.events(Event::PairWithStop, met as u64);
 }

@@ -123,6 +123,8 @@ pub struct Subject {
     pub start: fn(&[u8]) -> Result<State, u8>,
     pub step: fn(&mut State, &mut [u8], Lent) -> Stepped,
     pub run: fn(&mut State, &mut [u8], Lent, u64) -> Ran,
+    /// A run with a stop address, which stands before the budget.
+    pub run_to: fn(&mut State, &mut [u8], Lent, u16, u64) -> Ran,
     pub access: fn(&Addresses, u16, u16) -> Result<u8, u8>,
     pub read: fn(u16, u16) -> Read,
     pub write: fn(&[u16; 4]) -> Written,

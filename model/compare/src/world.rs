@@ -1,13 +1,14 @@
 //! A world: a scene with its memory, timetable, ride trace and state, and the list of calls that is
 //! made on it.
 
+use crate::aims::{self, Aim};
 use crate::calm;
 use crate::frames;
 use crate::layouts;
 use crate::random::Random;
 use crate::rides::{self, Ride};
 use crate::scene::{self, Scene};
-use crate::subject::{put_word, State, MEMORY_BYTES};
+use crate::subject::{put_word, State, CLOCK_LIMIT, MEMORY_BYTES};
 use crate::timetables;
 
 /// What a world begins with.
@@ -17,11 +18,12 @@ pub enum Begin {
     Invented(State),
 }
 
-/// A step, or a run with its budget.
+/// A step, a run with its budget, or a run with its stop address and its budget.
 #[derive(Clone, Copy, Debug)]
 pub enum Act {
     Step,
     Run(u64),
+    RunTo(Aim, u64),
 }
 
 /// What is wrong with a call, or altered for it.
@@ -42,6 +44,8 @@ pub enum Twist {
     Fault(usize, u64),
     /// A state that only a caller could invent.
     State(State),
+    /// A clock above 2^62, and no alarm.
+    Late(u64),
 }
 
 #[derive(Clone, Debug)]
@@ -133,30 +137,37 @@ fn calls(random: &mut Random, scene: &Scene, clock: u64) -> Vec<Call> {
         return vec![step; random.between(300, 1200) as usize];
     }
     let count = random.between(4, 60);
-    (0..count)
-        .map(|_| Call {
-            act: act(random),
-            twists: twists(random, scene, clock),
-        })
-        .collect()
+    let mut calls = Vec::new();
+    for _ in 0..count {
+        let act = act(random, scene);
+        let often = matches!(act, Act::RunTo(aim, _) if aim.odd);
+        let twists = twists(random, scene, clock, if often { 2 } else { 12 });
+        calls.push(Call { act, twists });
+        // Some stop at the same address again.
+        if matches!(act, Act::RunTo(..)) && random.one_in(6) {
+            calls.push(Call {
+                act: Act::RunTo(Aim::HERE, random.between(0, 9)),
+                twists: Vec::new(),
+            });
+        }
+    }
+    calls
 }
 
-fn act(random: &mut Random) -> Act {
-    if !random.one_in(4) {
+fn act(random: &mut Random, scene: &Scene) -> Act {
+    if !random.one_in(3) {
         return Act::Step;
     }
-    Act::Run(match random.below(16) {
-        0 => 0,
-        1 => 1,
-        2 if random.one_in(250) => 1_000_000,
-        3 => random.pick(&[1_000_001, 1_000_001, u64::MAX, 1 << 32]),
-        4 => random.between(100, 1200),
-        _ => random.between(2, 40),
-    })
+    if random.one_in(2) {
+        let (aim, budget) = Aim::new(random, scene);
+        return Act::RunTo(aim, budget);
+    }
+    Act::Run(aims::budget(random))
 }
 
-fn twists(random: &mut Random, scene: &Scene, clock: u64) -> Vec<Twist> {
-    if !random.one_in(12) {
+/// What is wrong with a call, once in so many calls.
+fn twists(random: &mut Random, scene: &Scene, clock: u64, seldom: u64) -> Vec<Twist> {
+    if !random.one_in(seldom) {
         return Vec::new();
     }
     let mut twists = vec![twist(random, scene, clock)];
@@ -167,7 +178,7 @@ fn twists(random: &mut Random, scene: &Scene, clock: u64) -> Vec<Twist> {
 }
 
 fn twist(random: &mut Random, scene: &Scene, clock: u64) -> Twist {
-    match random.below(15) {
+    match random.below(16) {
         0 => Twist::Size(random.pick(&[
             0,
             1,
@@ -188,6 +199,7 @@ fn twist(random: &mut Random, scene: &Scene, clock: u64) -> Twist {
             Twist::BrokenRide(way, rides::broken(random, scene, clock, way))
         }
         9 => Twist::Ride(rides::taken(random, scene, clock, &[])),
+        10 => Twist::Late(random.pick(&[CLOCK_LIMIT + 1, CLOCK_LIMIT + 23, u64::MAX])),
         _ => Twist::Fault(
             random.below(frames::FAULTS.len() as u64) as usize,
             random.next(),
