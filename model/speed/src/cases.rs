@@ -1,4 +1,4 @@
-//! What is measured: a program, its timetable and trace, and the calls that are made.
+//! What is measured: a program, its timetable, trace and stop address, and the calls that are made.
 
 use crate::programs::{plain, reading, through, Trace, World};
 
@@ -50,21 +50,29 @@ fn case(what: &'static str, world: World, work: Work, turns: u64) -> Case {
     }
 }
 
+/// So many run calls, each with this budget.
+fn runs(calls: u64, budget: u64) -> Work {
+    Work::Run { calls, budget }
+}
+
 /// One run call.
 fn run(budget: u64) -> Work {
-    Work::Run { calls: 1, budget }
+    runs(1, budget)
 }
 
 /// Runs outside the module. GIE is clear, so stamps that pass merge in the slot.
 fn plain_runs() -> Vec<Case> {
     let world = |stamps, clock| World::new(&plain(), stamps, clock);
-    let long = Work::Run {
-        calls: 10,
-        budget: 1_000_000,
-    };
+    let long = runs(10, 1_000_000);
     let all = stamps(MANY, 0);
     vec![
         case("run, plain loop", world(Vec::new(), 0), long, 1),
+        case(
+            "run, plain loop, a stop address never met",
+            world(Vec::new(), 0).stopped_elsewhere(),
+            long,
+            1,
+        ),
         case(
             "run, plain loop, a request pending",
             world(vec![1], 0),
@@ -123,12 +131,15 @@ fn traced_runs() -> Vec<Case> {
 /// Runs through the module, which pulses interrupt.
 fn module_runs() -> Vec<Case> {
     let world = |stamps| World::new(&through(), stamps, 0);
-    let long = Work::Run {
-        calls: 5,
-        budget: 1_000_000,
-    };
+    let long = runs(5, 1_000_000);
     vec![
         case("run, through the module", world(Vec::new()), long, 1),
+        case(
+            "run, module, a stop address never met",
+            world(Vec::new()).stopped_elsewhere(),
+            long,
+            1,
+        ),
         case(
             "run, module, a pulse each 50 cycles, 4,096",
             world(stamps(MANY, 0)),

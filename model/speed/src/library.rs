@@ -41,14 +41,12 @@ impl Subject for Library {
 
     fn run(&mut self, world: &World, budget: u64) -> u64 {
         let (mut end, mut steps) = (0, 0);
-        let number = self.machine.run(
-            &mut self.memory,
-            &world.layout,
-            lists(world),
-            budget,
-            &mut end,
-            &mut steps,
-        );
+        let (machine, memory) = (&mut self.machine, &mut self.memory);
+        let (layout, lists) = (&world.layout, lists(world));
+        let number = match world.stop {
+            None => machine.run(memory, layout, lists, budget, &mut end, &mut steps),
+            Some(stop) => machine.run_to(memory, layout, lists, stop, budget, &mut end, &mut steps),
+        };
         assert_eq!(number, 0, "a run is taken");
         steps
     }

@@ -2,7 +2,7 @@
 
 use crate::programs::World;
 use crate::subject::{Last, Subject};
-use model::{Layout, Machine, Trace};
+use model::{Layout, Machine, Stop, Trace};
 
 pub struct Modelled {
     machine: Machine,
@@ -35,6 +35,7 @@ impl Subject for Modelled {
             .expect("a step is taken");
     }
 
+    /// Without a stop address, also where the world has one: an address that is never met changes nothing.
     fn run(&mut self, world: &World, budget: u64) -> u64 {
         self.machine
             .run(
@@ -42,6 +43,7 @@ impl Subject for Modelled {
                 &self.layout,
                 &world.stamps,
                 trace(world),
+                Stop::Never,
                 budget,
             )
             .expect("a run is taken")

@@ -8,10 +8,12 @@ pub struct World {
     pub trace: Trace,
     /// The clock to begin at.
     pub clock: u64,
+    /// The stop address of its runs.
+    pub stop: Option<u16>,
 }
 
 impl World {
-    /// A world without a trace.
+    /// A world without a trace and without a stop address.
     pub fn new(words: &[(u16, u16)], stamps: Vec<u64>, clock: u64) -> World {
         World {
             memory: memory(words),
@@ -19,12 +21,19 @@ impl World {
             stamps,
             trace: Trace::default(),
             clock,
+            stop: None,
         }
     }
 
     /// The same world with a trace.
     pub fn traced(self, trace: Trace) -> World {
         World { trace, ..self }
+    }
+
+    /// The same world with a stop address that no program here gets to.
+    pub fn stopped_elsewhere(self) -> World {
+        let stop = Some(ELSEWHERE);
+        World { stop, ..self }
     }
 }
 
@@ -45,6 +54,9 @@ impl Trace {
 
 /// Code, data, service address.
 pub const LAYOUT: [u16; 5] = [0x8000, 0x8010, 0x8100, 0x8104, 0x4500];
+
+/// Far from the words of every program here.
+const ELSEWHERE: u16 = 0x6000;
 
 /// Where the plain loop begins, and its words: three constants, then ADD, a store, a load, CMP,
 /// MOV and a jump back. 11 cycles a turn. A real controller of the family runs it too.

@@ -20,7 +20,7 @@ pub trait Subject {
     /// One step call.
     fn step(&mut self, world: &World);
 
-    /// One run call; the number of its steps.
+    /// One run call, to the world's stop address if it has one; the number of its steps.
     fn run(&mut self, world: &World, budget: u64) -> u64;
 
     /// What it ended in.
