@@ -6,12 +6,9 @@ mod support;
 use std::collections::BTreeMap;
 
 use enclave::{
-    Budget, End, Kind, Machine, Memory, Refusal, Setup, Stop, StopAddress, Timetable, Trace,
-    LAST_CLOCK,
+    Budget, End, Kind, Machine, Refusal, Setup, Stop, StopAddress, Timetable, Trace, LAST_CLOCK,
 };
-use support::{
-    fields_at, model_transcript, paper_layout, paper_setup, worked_sheet, worked_sheets,
-};
+use support::{machine_at, model_transcript, paper_setup, worked_sheet, worked_sheets};
 
 fn at(address: u16) -> StopAddress {
     StopAddress::new(address).unwrap()
@@ -126,16 +123,6 @@ fn halted_comes_before_address() {
         assert_eq!(stop, (End::Halted, 0));
     }
     assert_eq!((machine, setup.memory), before);
-}
-
-// A machine at NOP, with this clock, and its memory.
-fn machine_at(clock: u64) -> (Machine, Memory) {
-    let mut fields = fields_at(0x4400);
-    fields.clock = clock;
-    let mut memory = Memory::zeroed();
-    memory.set_word(0x4400, 0x4303);
-    let machine = Machine::from_fields(paper_layout(), &fields).unwrap();
-    (machine, memory)
 }
 
 #[test]

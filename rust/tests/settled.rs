@@ -6,7 +6,7 @@ use enclave::{
     Budget, Instruction, Kind, Layout, Machine, Memory, Refusal, Register, Rights, Timetable,
     Trace, Words, LAST_CLOCK, MOST_STAMPS,
 };
-use support::{fields_at, paper_layout};
+use support::{fields_at, machine_at, paper_layout};
 
 fn register(number: u8) -> Register {
     Register::new(number).unwrap()
@@ -132,16 +132,6 @@ fn stamps_rise_from_1_to_2_to_the_62() {
 fn budget_is_at_most_1000000() {
     assert_eq!(Budget::new(1_000_000), Ok(Budget::MOST));
     assert_eq!(Budget::new(1_000_001), Err(Refusal::Distance));
-}
-
-// A machine at NOP with this clock, and its memory.
-fn machine_at(clock: u64) -> (Machine, Memory) {
-    let mut fields = fields_at(0x4400);
-    fields.clock = clock;
-    let mut memory = Memory::zeroed();
-    memory.set_word(0x4400, 0x4303);
-    let machine = Machine::from_fields(paper_layout(), &fields).unwrap();
-    (machine, memory)
 }
 
 #[test]

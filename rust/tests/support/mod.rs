@@ -75,3 +75,13 @@ pub fn fields_at(pc: u16) -> MachineFields {
     memory.set_word(0xFFFE, pc);
     Machine::start(paper_layout(), &memory).fields()
 }
+
+/// A machine at NOP with this clock, and its memory.
+pub fn machine_at(clock: u64) -> (Machine, Memory) {
+    let mut fields = fields_at(0x4400);
+    fields.clock = clock;
+    let mut memory = Memory::zeroed();
+    memory.set_word(0x4400, 0x4303);
+    let machine = Machine::from_fields(paper_layout(), &fields).unwrap();
+    (machine, memory)
+}
