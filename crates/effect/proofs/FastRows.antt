@@ -1,7 +1,7 @@
 -- What a fast answer promises, and that each row of instruction words keeps it. Assumes nothing.
 use Rattle.std.proofs.Common.{◌≡◌, set-set, refl, sym, ◌∙◌, ap, Bool, true, false, not, true≢false, List, set, ℕ, ◌≤◌, ◌<◌, arith, ltb, eqb, Option, None, Some, Ok}
 use Rattle.std.proofs.lemmas.Bool.{ltb-false, not-false}
-use Rattle.base.specs.Test.{when◌then◌else◌, all}
+use Rattle.base.specs.Test.{when◌then◌else◌}
 use Rattle.base.specs.Word.{drop_bit0}
 use Rattle.base.proofs.Tests.{choices, when_true, when_false, choose}
 use Rattle.rows.specs.declared.row.Operation.{Operation}
@@ -21,7 +21,6 @@ use Rattle.alu.specs.Laws.{FlagsOnly}
 use Rattle.alu.proofs.StatusBits.{flags_only}
 use Rattle.layout.specs.declared.sections.Layout.{Layout}
 use Rattle.layout.specs.declared.access.Right.TheVariants.{Read as read, Write as write}
-use Rattle.rows.specs.Table.{pointer}
 use Rattle.layout.specs.Sections.{same_side}
 use Rattle.layout.specs.Access.{may}
 use Rattle.effect.specs.declared.effect.Effect.{Effect}
@@ -29,15 +28,10 @@ use Rattle.definition.specs.Memory.{word_at}
 use Rattle.definition.specs.Registers.{register, pc, sr, write as write_register}
 use Rattle.definition.specs.Judge.{reads, writes, all_may, privileged, is_reti, judge_act, judge_words, judge_second, judge_first}
 use Rattle.definition.specs.Act.{past, registers_after, memory_after}
-use Rattle.effect.specs.Effect.{affected, put_if, address_past, second_address, setting_pc, setting_register_in, leading_on, setting_on, computing, branching, immediate}
+use Rattle.effect.specs.Effect.{affected, put_if, address_past, second_address, setting_pc, setting_register_in, leading_on, setting_on, computing, branching, moving, jumping, doing_nothing, immediate, loading, constant, storing}
 use Rattle.effect.specs.Laws.{jumps}
 use Rattle.definition.proofs.cause.JudgeLaws.{second_fails}
 use Rattle.effect.proofs.FastSets.{pc_set, compared, moved, stored}
-
--- a register above r3 may hold an address
-pub points : (n : ℕ) → 4 ≤ n → pointer n ≡ true
-unfolding pointer all
-points n h = grind (arith, choices)
 
 module _ (L : Layout) (held : Bool) (rs mem : List ℕ) where
   -- an instruction acts that is neither barred inside nor RETI
@@ -82,7 +76,7 @@ module _ (L : Layout) (held : Bool) (rs mem : List ℕ) where
     abbrev Fine : Row → Option Effect → Type 0
     Fine row q = EffectAgrees (found row s d) x y q
 
-    pub nop_agrees : Fine NOP (leading_on (pc rs) Nop (sr rs) false)
+    pub nop_agrees : Fine NOP (doing_nothing (pc rs) (sr rs))
     unfolding judge_first judge_second judge_words two_words finished all_may registers_after memory_after past put_if when◌then◌else◌
     nop_agrees =
         record {
@@ -100,7 +94,7 @@ module _ (L : Layout) (held : Bool) (rs mem : List ℕ) where
           gie_kept = refl;
         }
 
-    pub jmp_agrees : Fine JMP (setting_pc (Jmp s) (drop_bit0 (register rs s)) (sr rs) false)
+    pub jmp_agrees : Fine JMP (jumping (pc rs) (sr rs) (register rs s) s)
     unfolding judge_first judge_second judge_words two_words finished all_may registers_after memory_after past put_if write_register when◌then◌else◌
     jmp_agrees =
         record {
@@ -194,15 +188,14 @@ module _ (L : Layout) (held : Bool) (rs mem : List ℕ) where
           gie_kept = q;
         })
 
-    pub mov_agrees : Fine MOV (setting_on (pc rs) (Mov (Register s) d) d (register rs s) (sr rs))
+    pub mov_agrees : Fine MOV (moving (pc rs) (sr rs) (register rs s) s d)
     unfolding judge_first judge_second judge_words two_words finished all_may registers_after memory_after past when◌then◌else◌
     mov_agrees =
         let i : Instruction = Mov (Register s) d in
         setting_agrees MOV _ _ i (acting i refl refl refl refl) refl refl refl (λ h t device. moved rs _ t d _ h) refl refl
 
-    pub load_agrees : Fine LOAD
-        (when may L (pc rs) read (drop_bit0 (register rs s)) then setting_on (pc rs) (Mov (Pointed s) d) d (word_at mem (register rs s)) (sr rs) else None)
-    unfolding judge_first judge_second judge_words two_words finished all_may registers_after memory_after past
+    pub load_agrees : Fine LOAD (loading (pc rs) (sr rs) L mem (register rs s) s d)
+    unfolding loading judge_first judge_second judge_words two_words finished all_may registers_after memory_after past
     load_agrees =
         let i : Instruction = Mov (Pointed s) d in
         provided (found LOAD s d) x y (may L (pc rs) read (drop_bit0 (register rs s))) (setting_on (pc rs) i d (word_at mem (register rs s)) (sr rs))
@@ -210,11 +203,8 @@ module _ (L : Layout) (held : Bool) (rs mem : List ℕ) where
         (when_false _ _ _ refl ∙ ap (judge_words L held rs) (when_true _ _ _ refl) ∙ acting i refl refl (when_true _ _ _ k) refl)
         (when_true _ _ _ refl) refl refl (λ h t device. moved rs _ t d _ h) refl refl)
 
-    pub constant_agrees : Fine IMMEDIATE
-        (when same_side L (pc rs) (second_address (pc rs)) then
-        immediate (pc rs) (sr rs) (word_at mem (second_address (pc rs))) d
-        else None)
-    unfolding judge_first judge_second judge_words two_words finished all_may registers_after memory_after past
+    pub constant_agrees : Fine IMMEDIATE (constant (pc rs) (sr rs) L mem d)
+    unfolding constant judge_first judge_second judge_words two_words finished all_may registers_after memory_after past
     constant_agrees =
         let w : ℕ = word_at mem (second_address (pc rs)) in
         let i : Instruction = Mov (Constant w) d in
@@ -256,12 +246,8 @@ module _ (L : Layout) (held : Bool) (rs mem : List ℕ) where
         (λ h t device. stored rs _ t d _ h _) refl (flags_only (sr rs) _).1
 
   -- MOV s 0(d), which puts its source
-  pub store_agrees : (s d : ℕ) → EffectAgrees (found STORE s d) (register rs s) (register rs d)
-      (when not (same_side L (pc rs) (second_address (pc rs))) then None
-      else when not (eqb (word_at mem (second_address (pc rs))) 0) then None
-      else when may L (pc rs) write (drop_bit0 (register rs d)) then leading_on (pc rs) (Store s d) (sr rs) true
-      else None)
-  unfolding judge_first judge_second judge_words two_words finished all_may registers_after memory_after past put_if
+  pub store_agrees : (s d : ℕ) → EffectAgrees (found STORE s d) (register rs s) (register rs d) (storing (pc rs) (sr rs) L mem (register rs d) s d)
+  unfolding storing judge_first judge_second judge_words two_words finished all_may registers_after memory_after past put_if
   store_agrees s d =
       let done : Option Effect = leading_on (pc rs) (Store s d) (sr rs) true in
       let may-put : Bool = may L (pc rs) write (drop_bit0 (register rs d)) in

@@ -1,10 +1,14 @@
 -- The fast way of a step: a common instruction of which no interrupt can come sets pc, one more register and the status, or puts a word.
 -- It looks at no other register than it is handed, and is proved to do what the step does.
-use Rattle.std.specs.Prelude.{Bool, true, false, not, List, [], ◌∷◌, ℕ, ◌*◌, ◌/◌, ◌%◌, ltb, eqb, set, Option, None, Some}
-use Rattle.base.specs.Test.{when◌then◌else◌, all}
+use Rattle.std.specs.Prelude.{Bool, true, false, not, List, ℕ, ◌*◌, ◌/◌, ◌%◌, ltb, eqb, set, Option, None, Some}
+use Rattle.base.specs.Test.{when◌then◌else◌}
 use Rattle.base.specs.Word.{drop_bit0, sum16}
 use Rattle.rows.specs.declared.row.Operation.{Operation}
 use Rattle.rows.specs.declared.row.Operation.TheVariants.{Add, Sub, Cmp, And}
+use Rattle.rows.specs.declared.row.Row.{Row}
+use Rattle.rows.specs.declared.row.Row.TheVariants.{Hlt as HLT, In as IN, Out as OUT, Jz as JZ, Reti as RETI, Nop as NOP, Jmp as JMP, Mov as MOV, Load as LOAD, Store as STORE, Immediate as IMMEDIATE, Compute as COMPUTE, Not as NOT}
+use Rattle.rows.specs.declared.read.Begun.{Begun}
+use Rattle.rows.specs.Words.{begun}
 use Rattle.isa.specs.declared.instruction.Operand.TheVariants.{Register, Pointed, Constant}
 use Rattle.isa.specs.declared.instruction.Instruction.{Instruction}
 use Rattle.isa.specs.declared.instruction.Instruction.TheVariants.{Jz, Nop, Jmp, Mov, Store, Compute}
@@ -70,22 +74,23 @@ module _ (a status : ℕ) where
   computing Cmp s d c = leading_on a (Compute Cmp s d) (set_flags status c) false
   computing And s d c = setting_on a (Compute And s d) d c.result (set_flags status c)
 
-  -- those by the third digit
-  unfoldable pub grouped : ℕ → ℕ → Operation → ℕ → ℕ → ℕ → Option Effect
-  grouped x y o s c d = when eqb c 0 then computing o s d (computed o x y) else None
-
   -- JZ: 003s
   unfoldable pub branching : ℕ → ℕ → Option Effect
   branching x s =
       when zero status then setting_pc (Jz s) (drop_bit0 x) status false
       else leading_on a (Jz s) status false
 
-  -- 4s0d: JMP, NOP, MOV s d
-  unfoldable pub registering : ℕ → ℕ → ℕ → Option Effect
-  registering x s d =
-      when eqb d 0 then setting_pc (Jmp s) (drop_bit0 x) status false
-      else when all (eqb s 3 ∷ eqb d 3 ∷ []) then leading_on a Nop status false
-      else setting_on a (Mov (Register s) d) d x status
+  -- 4s0d: MOV s d
+  abbrev pub moving : ℕ → ℕ → ℕ → Option Effect
+  moving x s d = setting_on a (Mov (Register s) d) d x status
+
+  -- 4s00: JMP s
+  abbrev pub jumping : ℕ → ℕ → Option Effect
+  jumping x s = setting_pc (Jmp s) (drop_bit0 x) status false
+
+  -- 4303: NOP
+  abbrev pub doing_nothing : Option Effect
+  doing_nothing = leading_on a Nop status false
 
   -- MOV #w d
   abbrev pub immediate : ℕ → ℕ → Option Effect
@@ -95,42 +100,44 @@ module _ (a status : ℕ) where
     -- 4s2d: MOV @s d
     unfoldable pub loading : ℕ → ℕ → ℕ → Option Effect
     loading x s d =
-        when ltb s 4 then None
-        else when may L a read (drop_bit0 x) then setting_on a (Mov (Pointed s) d) d (word_at mem x) status
+        when may L a read (drop_bit0 x) then setting_on a (Mov (Pointed s) d) d (word_at mem x) status
         else None
 
     -- 403d: MOV #w d
-    unfoldable pub constant : ℕ → ℕ → Option Effect
-    constant s d =
-        when not (eqb s 0) then None
-        else when same_side L a (second_address a) then immediate (word_at mem (second_address a)) d
+    unfoldable pub constant : ℕ → Option Effect
+    constant d =
+        when same_side L a (second_address a) then immediate (word_at mem (second_address a)) d
         else None
 
     -- 4s8d: MOV s 0(d)
     unfoldable pub storing : ℕ → ℕ → ℕ → Option Effect
     storing y s d =
-        when ltb d 4 then None
-        else when not (same_side L a (second_address a)) then None
+        when not (same_side L a (second_address a)) then None
         else when not (eqb (word_at mem (second_address a)) 0) then None
         else when may L a write (drop_bit0 y) then leading_on a (Store s d) status true
         else None
 
-    -- 4scd: the moves
-    unfoldable pub moving : ℕ → ℕ → ℕ → ℕ → ℕ → Option Effect
-    moving x y s c d =
-        when eqb c 0 then registering x s d
-        else when eqb c 2 then loading x s d
-        else when eqb c 3 then constant s d
-        else when eqb c 8 then storing y s d
-        else None
+    -- by the row, with the second and the last digit s and d of its first word; what is rare is left to the step
+    abbrev pub effect_of : ℕ → ℕ → ℕ → ℕ → Row → Option Effect
+    effect_of x y s d MOV = moving x s d
+    effect_of x y s d JMP = jumping x s
+    effect_of x y s d NOP = doing_nothing
+    effect_of x y s d IMMEDIATE = constant d
+    effect_of x y s d (COMPUTE o) = computing o s d (computed o x y)
+    effect_of x y s d LOAD = loading x s d
+    effect_of x y s d STORE = storing y s d
+    effect_of x y s d JZ = branching y d
+    effect_of x y s d NOT = None
+    effect_of x y s d IN = None
+    effect_of x y s d OUT = None
+    effect_of x y s d RETI = None
+    effect_of x y s d HLT = None
 
-    -- by the first word's digits; whatever else there is, is left to the step
+    -- by what the table of instruction words begins
+    abbrev pub effect_begun : ℕ → ℕ → ℕ → ℕ → Option Begun → Option Effect
+    effect_begun x y s d None = None
+    effect_begun x y s d (Some b) = effect_of x y s d b.row
+
+    -- by the first word
     unfoldable pub fast_effect : ℕ → ℕ → ℕ → Option Effect
-    fast_effect x y w =
-        when eqb (w / 4096) 4 then moving x y (w / 256 % 16) (w / 16 % 16) (w % 16)
-        else when eqb (w / 4096) 5 then grouped x y Add (w / 256 % 16) (w / 16 % 16) (w % 16)
-        else when eqb (w / 4096) 8 then grouped x y Sub (w / 256 % 16) (w / 16 % 16) (w % 16)
-        else when eqb (w / 4096) 9 then grouped x y Cmp (w / 256 % 16) (w / 16 % 16) (w % 16)
-        else when eqb (w / 4096) 15 then grouped x y And (w / 256 % 16) (w / 16 % 16) (w % 16)
-        else when eqb (w / 16) 3 then branching y (w % 16)
-        else None
+    fast_effect x y w = effect_begun x y (w / 256 % 16) (w % 16) (begun w)

@@ -1,4 +1,4 @@
--- What is claimed of the fast way: it looks at the first word's digits itself, and takes a word only as the table of instruction words does.
+-- What is claimed of the fast way: it takes a word only as the table of instruction words does.
 use Rattle.std.specs.Prelude.{◌≡◌, Bool, true, false, List, ℕ, ◌/◌, ◌%◌, Some}
 use Rattle.isa.specs.declared.instruction.Instruction.{Instruction}
 use Rattle.isa.specs.declared.instruction.Instruction.TheVariants.{Hlt, In, Out, Jz, Reti, Nop, Jmp, Mov, Store, Compute, Not}

@@ -1,13 +1,11 @@
-// What a common instruction does, by the digits of its first word: it sets pc, one more register and the status, or puts a word.
+// What a common instruction does, by the row of its first word: it sets pc, one more register and the status, or puts a word.
 //
-// A second decoder beside `Begun::begin` of rows. The reason: the answer of `Begun::begin` comes back through memory and is waited for, 5 of 12
-// nanoseconds a step (docs/DECISIONS.md, docs/PERFORMANCE.md). The proof that it is the table's: `effect_by_table` in laws.rt. Wherever a word
-// is taken here, the table reads an instruction there, and its cycles and length are taken, by its kind, which the compiler folds.
-ghost use Rattle.std.specs.Prelude.{◌≡◌, ◌/◌, ◌%◌, eqb};
-ghost use Rattle.base.specs.Test.{when◌then◌else◌};
+// That it goes by the table of instruction words is a law, `effect_by_table` in laws.rt: wherever a word is taken here, the table reads an
+// instruction there, and its cycles and length are taken, by its kind, which the compiler folds.
+ghost use Rattle.std.specs.Prelude.{◌≡◌, ◌≤◌};
 ghost use Rattle.isa.specs.Cycles.{cycles_of};
 ghost use Rattle.alu.specs.Arithmetic.{computed};
-ghost use Rattle.effect.specs.Effect.{address_past, second_address, setting_pc_in, setting_register_in, computing, grouped, branching, registering, loading, constant, storing, moving, fast_effect};
+ghost use Rattle.effect.specs.Effect.{address_past, second_address, setting_pc_in, setting_register_in, computing, branching, moving, jumping, doing_nothing, loading, constant, storing, effect_of, fast_effect};
 
 use alu::arithmetic::compute;
 use alu::status::{set_flags, zero_is_set};
@@ -15,7 +13,8 @@ use base::word::{drop_bit_0, sum};
 use isa::instruction::{Instruction, Operand};
 use layout::access::Right;
 use layout::sections::Layout;
-use rows::row::Operation;
+use rows::read::Begun;
+use rows::row::{Operation, Row};
 use storage::memory::word_at;
 
 // What a fast step begins with: the instruction's address, the status, and the registers that the second and the last digit of its first word
@@ -74,14 +73,13 @@ fn set_pc(to: u16, status: u16, puts: bool, cycles: u64) -> Option<Effect>
     })
 }
 
-// Pc is set, and a register above r3.
+// Pc is set, and a register above r3. Each caller asks for that before it calls: asked for here, it would make the next pc wait for it
+// (docs/PERFORMANCE.md, *With another order of work*).
 #[tactic(auto, using(base::proofs::Tests::choices), unfolding(crate::specs::Effect::setting_register_in))]
 fn set_general(to: u16, d: u8, w: u16, status: u16, cycles: u64) -> Option<Effect>
+    requires { 4 ≤ d }
     ensures { result ≡ setting_register_in to d w status cycles }
 {
-    if d < 4 {
-        return None;
-    }
     Some(Effect {
         to,
         number: d,
@@ -92,7 +90,9 @@ fn set_general(to: u16, d: u8, w: u16, status: u16, cycles: u64) -> Option<Effec
     })
 }
 
-// ADD, SUB, CMP, AND.
+// ADD, SUB, CMP, AND. Each is compiled on its own, where it is asked for.
+#[inline(always)]
+#[tactic(auto, using(base::proofs::Tests::choices), unfolding(crate::specs::Effect::setting_register_in))]
 fn fast_compute(f: Fetched, o: Operation, s: u8, d: u8) -> Option<Effect>
     ensures { result ≡ computing f.address f.status o s d (computed o f.x f.y) }
 {
@@ -102,19 +102,9 @@ fn fast_compute(f: Fetched, o: Operation, s: u8, d: u8) -> Option<Effect>
     let c = compute(o, f.x, f.y);
     match o {
         Operation::Cmp => set_pc(next, set_flags(f.status, c), false, cycles),
+        _ if d < 4 => None,
         _ => set_general(next, d, c.result, set_flags(f.status, c), cycles),
     }
-}
-
-// Those by the third digit.
-#[tactic(auto, using(base::proofs::Tests::choices), unfolding(crate::specs::Effect::grouped))]
-fn fast_group(f: Fetched, o: Operation, s: u8, c: u8, d: u8) -> Option<Effect>
-    ensures { result ≡ grouped f.address f.status f.x f.y o s c d }
-{
-    if c == 0 {
-        return fast_compute(f, o, s, d);
-    }
-    None
 }
 
 // JZ.
@@ -129,34 +119,45 @@ fn fast_branch(f: Fetched, d: u8) -> Option<Effect>
     set_pc(address_past(f.address, i), f.status, false, cycles_of(i))
 }
 
-// 4s0d: JMP, NOP, MOV s d.
-#[tactic(auto, using(base::proofs::Tests::choices), unfolding(crate::specs::Effect::registering, base::specs::Test::all))]
-fn fast_register(f: Fetched, s: u8, d: u8) -> Option<Effect>
-    ensures { result ≡ registering f.address f.status f.x s d }
+// 4s0d: MOV s d.
+#[tactic(auto, using(base::proofs::Tests::choices), unfolding(crate::specs::Effect::setting_register_in))]
+fn fast_move(f: Fetched, s: u8, d: u8) -> Option<Effect>
+    ensures { result ≡ moving f.address f.status f.x s d }
 {
-    if d == 0 {
-        return set_pc(
-            drop_bit_0(f.x),
-            f.status,
-            false,
-            cycles_of(Instruction::Jmp(s)),
-        );
-    }
-    if s == 3 && d == 3 {
-        let i = Instruction::Nop;
-        return set_pc(address_past(f.address, i), f.status, false, cycles_of(i));
+    if d < 4 {
+        return None;
     }
     let i = Instruction::Mov(Operand::Register(s), d);
     set_general(address_past(f.address, i), d, f.x, f.status, cycles_of(i))
 }
 
+// 4s00: JMP s.
+fn fast_jump(f: Fetched, s: u8) -> Option<Effect>
+    ensures { result ≡ jumping f.address f.status f.x s }
+{
+    set_pc(
+        drop_bit_0(f.x),
+        f.status,
+        false,
+        cycles_of(Instruction::Jmp(s)),
+    )
+}
+
+// 4303: NOP.
+fn fast_nop(f: Fetched) -> Option<Effect>
+    ensures { result ≡ doing_nothing f.address f.status }
+{
+    let i = Instruction::Nop;
+    set_pc(address_past(f.address, i), f.status, false, cycles_of(i))
+}
+
 // 4s2d: MOV @s d.
-#[tactic(auto, using(base::proofs::Tests::choices), unfolding(crate::specs::Effect::loading))]
+#[tactic(auto, using(base::proofs::Tests::choices), unfolding(crate::specs::Effect::loading, crate::specs::Effect::setting_register_in))]
 fn fast_load(f: Fetched, layout: Layout, mem: &[u8], s: u8, d: u8) -> Option<Effect>
     ensures { result ≡ loading f.address f.status layout mem.now f.x s d }
 {
     let i = Instruction::Mov(Operand::Pointed(s), d);
-    if s < 4 {
+    if d < 4 {
         return None;
     }
     if layout.may(f.address, Right::Read, drop_bit_0(f.x)) {
@@ -172,12 +173,12 @@ fn fast_load(f: Fetched, layout: Layout, mem: &[u8], s: u8, d: u8) -> Option<Eff
 }
 
 // 403d: MOV #w d.
-#[tactic(auto, using(base::proofs::Tests::choices), unfolding(crate::specs::Effect::constant))]
-fn fast_constant(f: Fetched, layout: Layout, mem: &[u8], s: u8, d: u8) -> Option<Effect>
-    ensures { result ≡ constant f.address f.status layout mem.now s d }
+#[tactic(auto, using(base::proofs::Tests::choices), unfolding(crate::specs::Effect::constant, crate::specs::Effect::setting_register_in))]
+fn fast_constant(f: Fetched, layout: Layout, mem: &[u8], d: u8) -> Option<Effect>
+    ensures { result ≡ constant f.address f.status layout mem.now d }
 {
     let second = second_address(f.address);
-    if s != 0 {
+    if d < 4 {
         return None;
     }
     if layout.same_side(f.address, second) {
@@ -195,9 +196,6 @@ fn fast_store(f: Fetched, layout: Layout, mem: &[u8], s: u8, d: u8) -> Option<Ef
 {
     let i = Instruction::Store(s, d);
     let second = second_address(f.address);
-    if d < 4 {
-        return None;
-    }
     if !layout.same_side(f.address, second) {
         return None;
     }
@@ -210,52 +208,39 @@ fn fast_store(f: Fetched, layout: Layout, mem: &[u8], s: u8, d: u8) -> Option<Ef
     None
 }
 
-// 4scd: the moves.
-#[tactic(auto, using(base::proofs::Tests::choices), unfolding(crate::specs::Effect::moving))]
-fn fast_move(f: Fetched, layout: Layout, mem: &[u8], s: u8, c: u8, d: u8) -> Option<Effect>
-    ensures { result ≡ moving f.address f.status layout mem.now f.x f.y s c d }
-{
-    match c {
-        0 => fast_register(f, s, d),
-        2 => fast_load(f, layout, mem, s, d),
-        3 => fast_constant(f, layout, mem, s, d),
-        8 => fast_store(f, layout, mem, s, d),
-        _ => None,
-    }
-}
-
-// JZ, or what is left to the step.
+// By the row, with the second and the last digit of its first word. What is rare is left to the step.
 #[tactic(auto, using(base::proofs::Tests::choices))]
-fn fast_jump(f: Fetched, d: u8, w: u16) -> Option<Effect>
-    ensures { result ≡ (when eqb (w / 16) 3 then branching f.address f.status f.y d else None) }
+fn effect_of(f: Fetched, layout: Layout, mem: &[u8], row: Row, s: u8, d: u8) -> Option<Effect>
+    ensures { result ≡ effect_of f.address f.status layout mem.now f.x f.y s d row }
 {
-    if w / 16 == 3 {
-        return fast_branch(f, d);
+    match row {
+        Row::Mov => fast_move(f, s, d),
+        Row::Jmp => fast_jump(f, s),
+        Row::Nop => fast_nop(f),
+        Row::Immediate => fast_constant(f, layout, mem, d),
+        Row::Compute(Operation::Add) => fast_compute(f, Operation::Add, s, d),
+        Row::Compute(Operation::Sub) => fast_compute(f, Operation::Sub, s, d),
+        Row::Compute(Operation::Cmp) => fast_compute(f, Operation::Cmp, s, d),
+        Row::Compute(Operation::And) => fast_compute(f, Operation::And, s, d),
+        Row::Load => fast_load(f, layout, mem, s, d),
+        Row::Store => fast_store(f, layout, mem, s, d),
+        Row::Jz => fast_branch(f, d),
+        Row::Not | Row::In | Row::Out | Row::Reti | Row::Hlt => None,
     }
-    None
 }
 
-// The second digit of a word. Each row asks for it on its own: handed down, it makes a step some instructions longer (docs/DECISIONS.md, *Fast steps
-// look at the digits*).
-fn second_digit(w: u16) -> u8
-    ensures { result ≡ w / 256 % 16 }
-{
-    (w / 256 % 16) as u8
-}
-
-// What an instruction does, whose first word is w.
-#[tactic(auto, using(base::proofs::Tests::choices), unfolding(crate::specs::Effect::fast_effect))]
+// What an instruction does, whose first word is w. Its registers are named by the word's digits and not by what is begun, which would be put
+// together for it (docs/PERFORMANCE.md).
+#[tactic(auto, unfolding(crate::specs::Effect::fast_effect))]
 pub fn fast_effect(f: Fetched, layout: Layout, mem: &[u8], w: u16) -> Option<Effect>
     ensures { result ≡ fast_effect f.address f.status layout mem.now f.x f.y w }
 {
-    let c = (w / 16 % 16) as u8;
-    let d = (w % 16) as u8;
-    match w / 4096 {
-        4 => fast_move(f, layout, mem, second_digit(w), c, d),
-        5 => fast_group(f, Operation::Add, second_digit(w), c, d),
-        8 => fast_group(f, Operation::Sub, second_digit(w), c, d),
-        9 => fast_group(f, Operation::Cmp, second_digit(w), c, d),
-        15 => fast_group(f, Operation::And, second_digit(w), c, d),
-        _ => fast_jump(f, d, w),
+    match Begun::begin(w) {
+        Some(begun) => {
+            let s = (w / 256 % 16) as u8;
+            let d = (w % 16) as u8;
+            effect_of(f, layout, mem, begun.row, s, d)
+        }
+        None => None,
     }
 }

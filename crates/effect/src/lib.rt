@@ -1,4 +1,4 @@
-// What a common instruction does of which no interrupt can come, by the digits of its first word.
+// What a common instruction does of which no interrupt can come, by the row of its first word.
 #![tactic(auto)]
 
 pub mod effect;
