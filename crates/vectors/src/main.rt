@@ -13,6 +13,7 @@ fn main(rt: HostRuntime) -> io::Result<()> {
     words::around_edges(&mut out)?;
     words::second_words(&mut out)?;
     words::written(&mut out)?;
+    words::counted(&mut out)?;
     sums::all(&mut out)?;
     sums::inverted(&mut out)?;
     access::from_each(&mut out)?;

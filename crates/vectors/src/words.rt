@@ -3,6 +3,7 @@ use base::refusal::Refusal;
 use base::word::sum;
 use console::print;
 use isa::instruction::{Instruction, Operand};
+use rows::read::Begun;
 use rows::row::{Encoding, Operation};
 use rows::write::Words;
 use std::io;
@@ -120,4 +121,21 @@ pub fn written(out: &mut impl Write) -> io::Result<()> {
         show_write(out, i)?;
     }
     Ok(())
+}
+
+// How many first words begin an instruction of one word, and how many one of two.
+pub fn counted(out: &mut impl Write) -> io::Result<()> {
+    let mut one = 0;
+    let mut two = 0;
+    for first in 0u16..=0xffff {
+        match Begun::begin(first) {
+            Some(begun) if begun.two_words() => two = sum(two, 1),
+            Some(_) => one = sum(one, 1),
+            None => {}
+        }
+    }
+    print::text(out, b"N")?;
+    print::space_decimal(out, u64::from(one))?;
+    print::space_decimal(out, u64::from(two))?;
+    print::end_line(out)
 }
