@@ -30,7 +30,10 @@ fn main() -> std::io::Result<()> {
 /// on past it.
 fn next_part<'a>(rest: &mut &'a [u8]) -> &'a [u8] {
     let text = *rest;
-    let end = text.iter().position(|&byte| byte == b'%').unwrap_or(text.len());
+    let end = text
+        .iter()
+        .position(|&byte| byte == b'%')
+        .unwrap_or(text.len());
     *rest = text.get(end + 1..).unwrap_or(&[]);
     &text[..end]
 }
@@ -38,6 +41,9 @@ fn next_part<'a>(rest: &mut &'a [u8]) -> &'a [u8] {
 /// The last line, with its newline.
 fn last_line(transcript: &[u8]) -> &[u8] {
     let whole = transcript.strip_suffix(b"\n").unwrap_or(transcript);
-    let start = whole.iter().rposition(|&byte| byte == b'\n').map_or(0, |at| at + 1);
+    let start = whole
+        .iter()
+        .rposition(|&byte| byte == b'\n')
+        .map_or(0, |at| at + 1);
     &transcript[start..]
 }
