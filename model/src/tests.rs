@@ -1,5 +1,6 @@
 //! Tests. Expected values are worked out by hand from document 01, those of
-//! the ride trace and the stop address from document 02, requests a and b.
+//! the ride trace, the stop address and the order of looking at words from
+//! document 02, requests a to c.
 
 use crate::*;
 
@@ -382,9 +383,171 @@ fn inside_keeps_gie() {
 
 // "Instruction words"
 
+/// A row of the table: its words as they stand there, its instruction of s, d
+/// and the second word, and which registers it leaves out.
+struct Row {
+    words: &'static str,
+    instruction: fn(u8, u8, u16) -> Instruction,
+    leaves_out: fn(u8, u8) -> bool,
+}
+
+/// The table, with a row each for ADD, SUB, CMP and AND.
+static TABLE: [Row; 16] = {
+    use Instruction::*;
+    use Operand::*;
+    use Operation::*;
+    [
+        row("0001", |_, _, _| Hlt),
+        row("001d", |_, d, _| In(d)),
+        row("002s", |s, _, _| Out(s)),
+        row("003s", |s, _, _| Jz(s)),
+        row("1300", |_, _, _| Reti),
+        row("4303", |_, _, _| Nop),
+        row("4s00", |s, _, _| Jmp(s)),
+        row("4s0d", |s, d, _| Mov(Register(s), d)).but_not(|s, d| d == 0 || s == 3 && d == 3),
+        row("4s2d", |s, d, _| Mov(Pointed(s), d)).but_not(|s, _| s == 0 || s == 2 || s == 3),
+        row("4s8d 0000", |s, d, _| Store(s, d)).but_not(|_, d| d == 0 || d == 2 || d == 3),
+        row("403d w", |_, d, w| Mov(Constant(w), d)),
+        row("5s0d", |s, d, _| Compute(Add, s, d)),
+        row("8s0d", |s, d, _| Compute(Sub, s, d)),
+        row("9s0d", |s, d, _| Compute(Cmp, s, d)),
+        row("Fs0d", |s, d, _| Compute(And, s, d)),
+        row("E03d FFFF", |_, d, _| Not(d)),
+    ]
+};
+
+/// A row that leaves out no register.
+const fn row(words: &'static str, instruction: fn(u8, u8, u16) -> Instruction) -> Row {
+    Row {
+        words,
+        instruction,
+        leaves_out: |_, _| false,
+    }
+}
+
+impl Row {
+    const fn but_not(mut self, leaves_out: fn(u8, u8) -> bool) -> Row {
+        self.leaves_out = leaves_out;
+        self
+    }
+
+    /// Whether a first word has the row's digits, with any s and d.
+    fn looks_like(&self, first: u16) -> bool {
+        let word = format!("{first:04X}");
+        let mut digits = self.words.chars().zip(word.chars());
+        digits.all(|(here, there)| here == 's' || here == 'd' || here == there)
+    }
+
+    /// Whether a first word begins the row's instruction.
+    fn has(&self, first: u16) -> bool {
+        let [s, d] = self.registers(first);
+        self.looks_like(first) && !(self.leaves_out)(s, d)
+    }
+
+    /// The digits of a first word where s and d stand, 0 where they do not.
+    fn registers(&self, first: u16) -> [u8; 2] {
+        ['s', 'd'].map(|letter| {
+            let place = self.words.find(letter);
+            place.map_or(0, |place| (first >> (12 - 4 * place)) as u8 % 16)
+        })
+    }
+
+    fn length(&self) -> u8 {
+        self.words.split(' ').count() as u8
+    }
+
+    /// What two words are whose first the row has.
+    fn read(&self, first: u16, second: u16) -> Option<(Instruction, u8)> {
+        let fits = match self.words.split(' ').nth(1) {
+            None | Some("w") => true,
+            Some(word) => word == format!("{second:04X}"),
+        };
+        let [s, d] = self.registers(first);
+        fits.then(|| ((self.instruction)(s, d, second), self.length()))
+    }
+}
+
+#[test]
+fn first_words_by_length_and_by_row() {
+    // Begin no instruction, one of one word, one of two.
+    let mut lengths = [0; 3];
+    let mut rows = [0; 16];
+    for first in 0..=0xFFFF {
+        lengths[begins(first).unwrap_or(0) as usize] += 1;
+        if let Some(place) = TABLE.iter().position(|row| row.has(first)) {
+            rows[place] += 1;
+        }
+    }
+    assert_eq!(lengths, [63_758, 1_538, 240]);
+    // HLT, IN, OUT, JZ, RETI, NOP, JMP.
+    assert_eq!(rows[..7], [1, 16, 16, 16, 1, 1, 16]);
+    // MOV s d, MOV @s d, MOV s 0(d), MOV #w d.
+    assert_eq!(rows[7..11], [16 * 15 - 1, 13 * 16, 16 * 13, 16]);
+    // ADD, SUB, CMP, AND, NOT.
+    assert_eq!(rows[11..], [16 * 16, 16 * 16, 16 * 16, 16 * 16, 16]);
+}
+
+/// The first words that more than one row takes, by what a row takes.
+fn in_two_rows(takes: fn(&Row, u16) -> bool) -> Vec<u16> {
+    let rows = |first| TABLE.iter().filter(|row| takes(row, first)).count();
+    (0..=0xFFFF).filter(|&first| rows(first) > 1).collect()
+}
+
+#[test]
+fn no_first_word_is_in_two_rows() {
+    assert_eq!(in_two_rows(Row::has), []);
+    // Were no register left out, each JMP and NOP would be a MOV s d too.
+    let mut expected: Vec<u16> = (0..16).map(|s| 0x4000 + 0x100 * s).collect();
+    expected.insert(4, 0x4303);
+    assert_eq!(in_two_rows(Row::looks_like), expected);
+}
+
+/// The order that request c wants: groups 4 and 5 first, of these register moves
+/// and immediates first, the rare words last.
+const BY_USE: [usize; 16] = [7, 10, 8, 9, 6, 5, 11, 12, 13, 14, 15, 3, 1, 2, 4, 0];
+
+/// The places of the table in a random order.
+fn shuffled(random: &mut Random) -> [usize; 16] {
+    let mut order = std::array::from_fn(|place| place);
+    for last in (1..16).rev() {
+        order.swap(last, random.below(last as u64 + 1) as usize);
+    }
+    order
+}
+
+/// For each first word, which rows have it.
+fn rows_of_words() -> Vec<[bool; 16]> {
+    let rows = |first| std::array::from_fn(|place| TABLE[place].has(first));
+    (0..=0xFFFF).map(rows).collect()
+}
+
+/// The first word, if any, for which looking through the rows in an order does
+/// not give what `begins` and `decode` give.
+fn other_answer(order: [usize; 16], rows: &[[bool; 16]]) -> Option<u16> {
+    (0..=0xFFFF).find(|&first| {
+        let found = order.iter().find(|&&place| rows[first as usize][place]);
+        let row = found.map(|&place| &TABLE[place]);
+        let reads = |second| row.and_then(|row| row.read(first, second));
+        let same = |second| decode(first, second) == reads(second);
+        begins(first) != row.map(Row::length)
+            || ![0x0000, 0xFFFF, 0xFFFE, 0x0001].into_iter().all(same)
+    })
+}
+
+#[test]
+fn no_order_of_looking_changes_an_answer() {
+    let rows = rows_of_words();
+    let paper = std::array::from_fn(|place| place);
+    let reverse = std::array::from_fn(|place| 15 - place);
+    let random = &mut Random(1);
+    let shuffles = std::iter::repeat_with(|| shuffled(random)).take(100);
+    for order in [paper, reverse, BY_USE].into_iter().chain(shuffles) {
+        assert_eq!(other_answer(order, &rows), None, "in the order {order:?}");
+    }
+}
+
 #[test]
 fn all_words_decode_and_encode() {
-    let mut decoded = 0;
     for first in 0..=0xFFFFu16 {
         for second in [0x0000, 0x1234, 0xFFFF] {
             if let Some((instruction, length)) = decode(first, second) {
@@ -397,14 +560,7 @@ fn all_words_decode_and_encode() {
                 assert_eq!(encode(&instruction), Some(expected));
             }
         }
-        if begins(first).is_some() {
-            decoded += 1;
-        }
     }
-    // HLT, IN OUT JZ, RETI, NOP, JMP, MOV s d, MOV @s d, MOV s 0(d), MOV #w d,
-    // ADD SUB CMP AND, NOT.
-    let expected = 1 + 3 * 16 + 1 + 1 + 16 + (16 * 15 - 1) + 13 * 16 + 16 * 13 + 16 + 4 * 256 + 16;
-    assert_eq!(decoded, expected);
 }
 
 #[test]
