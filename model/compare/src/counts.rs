@@ -87,10 +87,13 @@ pub enum Event {
     DurationLaw,
     RunLaw,
     StopLaw,
+    NoWord,
+    OneWord,
+    TwoWords,
     Question,
 }
 
-const EVENTS: [&str; 81] = [
+const EVENTS: [&str; 84] = [
     "visit entered",
     "padded right after return padding",
     "plain interrupt while a visit is held",
@@ -171,6 +174,9 @@ const EVENTS: [&str; 81] = [
     "law: duration of an ended visit",
     "law: run of n is n steps",
     "law: run to an address and on is the run without",
+    "first words that begin no instruction",
+    "first words read as one-word instructions",
+    "first words read as two-word instructions",
     "read, write, access",
 ];
 
@@ -200,6 +206,8 @@ pub struct Counts {
     before_landmark: [u64; landmarks::BEFORE.len()],
     rows_inside: [u64; 16],
     rows_elsewhere: [u64; 16],
+    /// The first words that were read in each row.
+    rows_read: [u64; 16],
     events: [u64; EVENTS.len()],
 }
 
@@ -220,6 +228,7 @@ impl Counts {
             before_landmark: [0; landmarks::BEFORE.len()],
             rows_inside: [0; 16],
             rows_elsewhere: [0; 16],
+            rows_read: [0; 16],
             events: [0; EVENTS.len()],
         }
     }
@@ -268,6 +277,13 @@ impl Counts {
         rows[row] += 1;
     }
 
+    /// The first words of a pass over all of them, by row.
+    pub fn first_words(&mut self, rows: &[u64; 16]) {
+        for (count, times) in self.rows_read.iter_mut().zip(rows) {
+            *count += times;
+        }
+    }
+
     pub fn event(&mut self, event: Event) {
         self.events[event as usize] += 1;
     }
@@ -305,6 +321,7 @@ impl Counts {
             // HLT, IN and OUT inside are resets.
             group(true, named("inside ", &ROWS[3..]), &self.rows_inside[3..]),
             group(true, named("elsewhere ", &ROWS), &self.rows_elsewhere),
+            group(true, named("read ", &ROWS), &self.rows_read),
             group(false, named("", &EVENTS), &self.events),
         ]
     }

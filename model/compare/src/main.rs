@@ -8,14 +8,15 @@
 //! ```
 //!
 //! A seed decides everything. `one` repeats a single index: its world, its pair of machines, its
-//! sheets. The program fails on a difference, on a count of 0 in its table, and on a mutant of
-//! the model that it does not see.
+//! sheets. The program fails on a difference, on a count of 0 in its table, on other counts of first
+//! words than those of document 01's table, and on a mutant of the model that it does not see.
 
 mod aims;
 mod calm;
 mod counts;
 mod course;
 mod drive;
+mod first_words;
 mod frames;
 mod instructions;
 mod landmarks;

@@ -3,9 +3,10 @@
 
 use crate::counts::{Counts, Event};
 use crate::drive::Sides;
+use crate::first_words::Pass;
 use crate::layouts;
 use crate::random::Random;
-use crate::subject::Addresses;
+use crate::subject::{Addresses, Read};
 use std::fmt::Debug;
 
 /// One question's two answers.
@@ -26,21 +27,32 @@ fn same<T: PartialEq + Debug>(
     Ok(())
 }
 
-/// Reads every first word, each with several second words.
+/// Reads every first word; the library's own answers are counted.
 fn reading(sides: Sides, random: &mut Random, counts: &mut Counts) -> Result<(), String> {
+    let mut pass = Pass::new();
     for first in 0..=0xFFFF {
-        for second in [0x0000, 0xFFFF, 0xFFFE, 0x0001, random.word(), random.word()] {
-            let library = (sides.library.read)(first, second);
-            let model = (sides.model.read)(first, second);
-            same(
-                || format!("read {first:04X} {second:04X}"),
-                library,
-                model,
-                counts,
-            )?;
-        }
+        let answers = read(sides, first, random, counts)?;
+        pass.count(&answers)
+            .map_err(|text| format!("first word {first:04X} {text}"))?;
     }
-    Ok(())
+    pass.end(counts)
+}
+
+/// Reads a first word with several second words. The library's answers.
+fn read(
+    sides: Sides,
+    first: u16,
+    random: &mut Random,
+    counts: &mut Counts,
+) -> Result<[Read; 6], String> {
+    let seconds = [0x0000, 0xFFFF, 0xFFFE, 0x0001, random.word(), random.word()];
+    let answers = seconds.map(|second| (sides.library.read)(first, second));
+    for (second, library) in seconds.into_iter().zip(answers) {
+        let model = (sides.model.read)(first, second);
+        let what = || format!("read {first:04X} {second:04X}");
+        same(what, library, model, counts)?;
+    }
+    Ok(answers)
 }
 
 /// Registers at the edges and beyond them.
