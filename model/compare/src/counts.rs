@@ -90,10 +90,12 @@ pub enum Event {
     NoWord,
     OneWord,
     TwoWords,
+    WordExecuted,
+    NoWordExecuted,
     Question,
 }
 
-const EVENTS: [&str; 84] = [
+const EVENTS: [&str; 86] = [
     "visit entered",
     "padded right after return padding",
     "plain interrupt while a visit is held",
@@ -177,6 +179,8 @@ const EVENTS: [&str; 84] = [
     "first words that begin no instruction",
     "first words read as one-word instructions",
     "first words read as two-word instructions",
+    "first words executed, in steps and runs",
+    "first words executed that begin no instruction",
     "read, write, access",
 ];
 

@@ -5,7 +5,7 @@ use crate::counts::{Counts, Event};
 use crate::subject::Read;
 
 /// How many first words begin no instruction, one of one word, one of two.
-const BY_LENGTH: [u64; 3] = [63_758, 1_538, 240];
+pub const BY_LENGTH: [u64; 3] = [63_758, 1_538, 240];
 
 /// How many first words each row of the table has, HLT first.
 const BY_ROW: [u64; 16] = [

@@ -16,6 +16,7 @@ mod calm;
 mod counts;
 mod course;
 mod drive;
+mod executed;
 mod first_words;
 mod frames;
 mod instructions;
@@ -73,6 +74,8 @@ fn compare(options: &Options, extent: Extent) -> Result<String, String> {
         extent.layouts,
     )
     .map_err(|text| format!("difference in a question of seed {seed}: {text}"))?;
+    executed::all(SIDES, &mut Random::new(seed, 0), &mut counts)
+        .map_err(|text| format!("difference of seed {seed}, {text}"))?;
     for part in PARTS {
         let count = (part.count)(&extent);
         for index in 0..count {
