@@ -153,4 +153,58 @@ pub const MUTATIONS: &[Mutation] = &[
         "calls.rs": "if matches!(stop, Stop::At(address) if address % 2 == 1) {\n            return Some(11);\n        }\n" => "",
         "calls.rs": "if !self.frame_valid(layout) {" =>
         "if matches!(stop, Stop::At(address) if address % 2 == 1) {\n            return Some(11);\n        }\n        if !self.frame_valid(layout) {"),
+    mutation!("nop_read_as_mov",
+        "instruction.rs": "if word == 0x4303 {\n        return Some(Nop);\n    }\n" => "",
+        "instruction.rs": " && !(s == 3 && d == 3)" => ""),
+    mutation!("jmp_read_as_mov",
+        "instruction.rs": "if (top, middle, d) == (4, 0, 0) {\n        return Some(Jmp(s));\n    }\n" => "",
+        "instruction.rs": "(4, 0) && d != 0 &&" => "(4, 0) &&"),
+    mutation!("mov_from_r3_read_as_nop", "instruction.rs":
+        "if word == 0x4303 {" => "if (top, s, middle) == (4, 3, 0) && d != 0 {"),
+    mutation!("mov_to_r3_read_as_nop", "instruction.rs":
+        "if word == 0x4303 {" => "if (top, middle, d) == (4, 0, 3) {"),
+    mutation!("mov_with_r3_left_out", "instruction.rs":
+        "&& !(s == 3 && d == 3)" => "&& s != 3 && d != 3"),
+    mutation!("group_4_with_d_0_only_jumps", "instruction.rs":
+        "if (top, middle, d) == (4, 0, 0) {\n        return Some(Jmp(s));" =>
+        "if (top, d) == (4, 0) {\n        return (middle == 0).then_some(Jmp(s));"),
+    mutation!("pointed_by_r0_taken", "instruction.rs":
+        "&& s != 0 && s != 2 && s != 3" => "&& s != 2 && s != 3"),
+    mutation!("pointed_by_r2_taken", "instruction.rs":
+        "&& s != 0 && s != 2 && s != 3" => "&& s != 0 && s != 3"),
+    mutation!("pointed_by_r3_taken", "instruction.rs":
+        "&& s != 0 && s != 2 && s != 3" => "&& s != 0 && s != 2"),
+    mutation!("store_to_r0_taken", "instruction.rs":
+        "&& d != 0 && d != 2 && d != 3" => "&& d != 2 && d != 3"),
+    mutation!("store_to_r2_taken", "instruction.rs":
+        "&& d != 0 && d != 2 && d != 3" => "&& d != 0 && d != 3"),
+    mutation!("store_to_r3_taken", "instruction.rs":
+        "&& d != 0 && d != 2 && d != 3" => "&& d != 0 && d != 2"),
+    mutation!("pointed_and_store_leave_out_the_other",
+        "instruction.rs": "(4, 2) && s != 0 && s != 2 && s != 3" => "(4, 2) && d != 0 && d != 2 && d != 3",
+        "instruction.rs": "(4, 8) && d != 0 && d != 2 && d != 3" => "(4, 8) && s != 0 && s != 2 && s != 3"),
+    mutation!("constant_with_any_second_digit_taken", "instruction.rs":
+        "(top, s, middle) == (4, 0, 3)" => "(top, middle) == (4, 3)"),
+    mutation!("group_5_read_as_pointed", "instruction.rs":
+        "(top, middle) == (4, 2)" => "(top / 2, middle) == (2, 2)"),
+    mutation!("add_with_third_digit_1_taken", "instruction.rs":
+        "(top, middle) == (0x5, 0)" => "(top, middle / 2) == (0x5, 0)"),
+    mutation!("add_to_r0_left_out", "instruction.rs":
+        "(top, middle) == (0x5, 0)" => "(top, middle) == (0x5, 0) && d != 0"),
+    mutation!("word_0000_read_as_hlt", "instruction.rs": "word == 0x0001" => "word <= 0x0001"),
+    mutation!("rest_of_group_0_read_as_hlt", "instruction.rs":
+        "word == 0x0001" => "(top, s) == (0, 0) && !(1..=3).contains(&middle)"),
+    mutation!("in_with_any_second_digit_taken", "instruction.rs":
+        "(top, s, middle) == (0, 0, 1)" => "(top, middle) == (0, 1)"),
+    mutation!("jz_by_r0_left_out", "instruction.rs":
+        "(top, s, middle) == (0, 0, 3)" => "(top, s, middle) == (0, 0, 3) && d != 0"),
+    mutation!("reti_with_any_last_digit_taken", "instruction.rs":
+        "word == 0x1300" => "(top, s, middle) == (1, 3, 0)"),
+    mutation!("not_with_any_second_digit_taken", "instruction.rs":
+        "(top, s, middle) == (0xE, 0, 3)" => "(top, middle) == (0xE, 3)"),
+    mutation!("not_with_any_second_word_taken", "instruction.rs":
+        "Not(_) if second != 0xFFFF => return None," => ""),
+    mutation!("store_with_any_second_word_taken", "instruction.rs":
+        "Store(_, _) if second != 0x0000 => return None," => ""),
+    mutation!("wrong_second_word_told_as_a_first", "step.rs": "return Err(5);" => "return Err(3);"),
 ];

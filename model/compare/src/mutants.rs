@@ -8,7 +8,7 @@ use crate::secrecy::Pair;
 use crate::subject::Subject;
 use crate::subjects::MUTANTS;
 use crate::world::World;
-use crate::{library, questions, reading};
+use crate::{executed, library, questions, reading};
 
 /// As many worlds, sheets and pairs are tried at most.
 const MOST: u64 = 6000;
@@ -46,26 +46,61 @@ const TELLING: [&str; 3] = [
     "gie_writable_inside",
 ];
 
+/// Mutants that misread words: the counts of first words by one side's answers, and the execution of
+/// every first word, must see each, but for those below.
+const MISREADING: [&str; 26] = [
+    "nop_read_as_mov",
+    "jmp_read_as_mov",
+    "mov_from_r3_read_as_nop",
+    "mov_to_r3_read_as_nop",
+    "mov_with_r3_left_out",
+    "group_4_with_d_0_only_jumps",
+    "pointed_by_r0_taken",
+    "pointed_by_r2_taken",
+    "pointed_by_r3_taken",
+    "store_to_r0_taken",
+    "store_to_r2_taken",
+    "store_to_r3_taken",
+    "pointed_and_store_leave_out_the_other",
+    "constant_with_any_second_digit_taken",
+    "group_5_read_as_pointed",
+    "add_with_third_digit_1_taken",
+    "add_to_r0_left_out",
+    "word_0000_read_as_hlt",
+    "rest_of_group_0_read_as_hlt",
+    "in_with_any_second_digit_taken",
+    "jz_by_r0_left_out",
+    "reti_with_any_last_digit_taken",
+    "not_with_any_second_digit_taken",
+    "not_with_any_second_word_taken",
+    "store_with_any_second_word_taken",
+    "wrong_second_word_told_as_a_first",
+];
+
+/// They take as many first words in each row.
+const SAME_COUNTS: [&str; 4] = [
+    "pointed_and_store_leave_out_the_other",
+    "not_with_any_second_word_taken",
+    "store_with_any_second_word_taken",
+    "wrong_second_word_told_as_a_first",
+];
+
+/// Their words do the same by another name: what is moved into r3 is lost.
+const SAME_STEPS: [&str; 2] = ["nop_read_as_mov", "mov_to_r3_read_as_nop"];
+
 /// Tries every mutant; a line for each. The error names those that were not seen.
 pub fn mutants(seed: u64) -> Result<String, String> {
-    let mut text = format!(
-        "{:<42} {:<12} {:<12} secrecy\n",
-        "mutant, where it was seen", "comparison", "laws"
-    );
+    let places = ["comparison", "laws", "secrecy", "counts", "execution"];
+    let mut text = line("mutant, where it was seen", places);
     let mut survivors = Vec::new();
     for (name, mutant) in MUTANTS {
-        let asked = |list: &[&str]| list.contains(name);
-        let seen = [
-            Some(first_difference(seed, mutant)),
-            asked(&UNLAWFUL).then(|| first_unlawful(seed, mutant)),
-            asked(&TELLING).then(|| first_telling(seed, mutant)),
-        ];
+        let seen = seen(seed, name, mutant);
         let told = seen.each_ref().map(|place| match place {
             None => "",
             Some(None) => "not seen",
             Some(Some(place)) => place,
         });
-        text += &format!("{name:<42} {:<12} {:<12} {}\n", told[0], told[1], told[2]);
+        text += &line(name, told);
         if seen.contains(&Some(None)) {
             survivors.push(*name);
         }
@@ -78,6 +113,28 @@ pub fn mutants(seed: u64) -> Result<String, String> {
             survivors.join(", ")
         ))
     }
+}
+
+/// A mutant's line of the table.
+fn line(name: &str, told: [&str; 5]) -> String {
+    let [comparison, laws, secrecy, counts, execution] = told;
+    let line =
+        format!("{name:<42} {comparison:<12} {laws:<12} {secrecy:<12} {counts:<12} {execution}");
+    format!("{}\n", line.trim_end())
+}
+
+/// Where the comparison and each test by itself sees a mutant; nothing for a test that is not asked.
+fn seen(seed: u64, name: &str, mutant: &'static Subject) -> [Option<Option<String>>; 5] {
+    let asked = |list: &[&str]| list.contains(&name);
+    let counted = asked(&MISREADING) && !asked(&SAME_COUNTS);
+    let executed = asked(&MISREADING) && !asked(&SAME_STEPS);
+    [
+        Some(first_difference(seed, mutant)),
+        asked(&UNLAWFUL).then(|| first_unlawful(seed, mutant)),
+        asked(&TELLING).then(|| first_telling(seed, mutant)),
+        counted.then(|| miscount(seed, mutant)),
+        executed.then(|| first_misdone(seed, mutant)),
+    ]
 }
 
 /// Where the comparison of the library with a mutant finds the first difference.
@@ -99,6 +156,27 @@ fn first_difference(seed: u64, mutant: &'static Subject) -> Option<String> {
         }
     }
     None
+}
+
+/// Whether the counts of first words are wrong where both sides are the mutant.
+fn miscount(seed: u64, mutant: &'static Subject) -> Option<String> {
+    let sides = Sides {
+        library: mutant,
+        model: mutant,
+    };
+    let read = questions::reading(sides, &mut Random::new(seed, 0), &mut Counts::new());
+    read.is_err().then(|| "a count".into())
+}
+
+/// The first word whose execution by a mutant is not the library's.
+fn first_misdone(seed: u64, mutant: &'static Subject) -> Option<String> {
+    let sides = Sides {
+        library: &library::LIBRARY,
+        model: mutant,
+    };
+    let executed = executed::all(sides, &mut Random::new(seed, 0), &mut Counts::new());
+    let text = executed.err()?;
+    text.split(':').next().map(String::from)
 }
 
 /// The first pair of runs of a mutant that breaks a law.

@@ -28,7 +28,7 @@ fn same<T: PartialEq + Debug>(
 }
 
 /// Reads every first word; the library's own answers are counted.
-fn reading(sides: Sides, random: &mut Random, counts: &mut Counts) -> Result<(), String> {
+pub fn reading(sides: Sides, random: &mut Random, counts: &mut Counts) -> Result<(), String> {
     let mut pass = Pass::new();
     for first in 0..=0xFFFF {
         let answers = read(sides, first, random, counts)?;
