@@ -502,8 +502,8 @@ fn no_first_word_is_in_two_rows() {
     assert_eq!(in_two_rows(Row::looks_like), expected);
 }
 
-/// The order that request c wants: groups 4 and 5 first, of these register moves
-/// and immediates first, the rare words last.
+/// An order that request c would allow: groups 4 and 5 first, of these register
+/// moves and immediates first, the rare words last.
 const BY_USE: [usize; 16] = [7, 10, 8, 9, 6, 5, 11, 12, 13, 14, 15, 3, 1, 2, 4, 0];
 
 /// The places of the table in a random order.
