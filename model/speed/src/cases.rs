@@ -1,19 +1,27 @@
-//! What is measured: a program, its timetable, trace and stop address, and the calls that are made.
+//! What is measured: a program, its timetable, trace and stop address, and the calls that are made; or the words that are read.
 
-use crate::programs::{plain, reading, through, Trace, World};
+use crate::programs::{every_row, moves, plain, reading, through, undecoded, Trace, World};
+use crate::words::{self, Pair};
 
-/// The calls of one turn.
+/// The calls of one turn on a machine.
 #[derive(Clone, Copy)]
-pub enum Work {
+pub enum Calls {
     /// Run calls, each with this budget.
     Run { calls: u64, budget: u64 },
     /// Step calls.
     Steps(u64),
 }
 
+/// One turn.
+pub enum Work {
+    /// Calls on a machine that is started in this world.
+    Machine(World, Calls),
+    /// A read call of each of these.
+    Read(Vec<Pair>),
+}
+
 pub struct Case {
     pub what: &'static str,
-    pub world: World,
     pub work: Work,
     /// How often a round starts over.
     pub turns: u64,
@@ -31,32 +39,35 @@ fn stamps(count: u64, after: u64) -> Vec<u64> {
 /// Later than any run here.
 const FAR: u64 = 1 << 40;
 
-/// All cases; the first is the loop that other tools run too.
-pub fn cases() -> Vec<Case> {
-    let mut cases = plain_runs();
-    cases.extend(traced_runs());
-    cases.extend(module_runs());
-    cases.extend(readings());
-    cases.extend(steps());
-    cases
+/// All cases, made as they are asked for; the first is the loop that other tools run too.
+pub fn cases() -> impl Iterator<Item = Case> {
+    let groups = [
+        plain_runs,
+        traced_runs,
+        module_runs,
+        readings,
+        mixed_runs,
+        steps,
+        read_calls,
+    ];
+    groups.into_iter().flat_map(|group| group())
 }
 
-fn case(what: &'static str, world: World, work: Work, turns: u64) -> Case {
+fn case(what: &'static str, world: World, calls: Calls, turns: u64) -> Case {
     Case {
         what,
-        world,
-        work,
+        work: Work::Machine(world, calls),
         turns,
     }
 }
 
 /// So many run calls, each with this budget.
-fn runs(calls: u64, budget: u64) -> Work {
-    Work::Run { calls, budget }
+fn runs(calls: u64, budget: u64) -> Calls {
+    Calls::Run { calls, budget }
 }
 
 /// One run call.
-fn run(budget: u64) -> Work {
+fn run(budget: u64) -> Calls {
     runs(1, budget)
 }
 
@@ -195,24 +206,69 @@ fn readings() -> Vec<Case> {
     ]
 }
 
+/// Runs of what the other loops have little of: each kind of row, and resets.
+fn mixed_runs() -> Vec<Case> {
+    let world = |words: &[(u16, u16)]| World::new(words, Vec::new(), 0);
+    vec![
+        case(
+            "run, a loop of moves and immediates",
+            world(&moves()),
+            runs(5, 1_000_000),
+            1,
+        ),
+        case(
+            "run, a loop of all rows but HLT",
+            world(&every_row()),
+            run(1_000_000),
+            1,
+        ),
+        case(
+            "run, resets on a word that does not decode",
+            world(&undecoded()),
+            run(500_000),
+            1,
+        ),
+    ]
+}
+
 /// Step calls.
 fn steps() -> Vec<Case> {
     let world = |stamps| World::new(&plain(), stamps, 0);
-    let work = Work::Steps(2_000_000);
+    let calls = Calls::Steps(2_000_000);
     let trace = Trace::at(stamps(MANY, FAR + 25));
     vec![
-        case("step calls, plain loop", world(Vec::new()), work, 1),
+        case("step calls, plain loop", world(Vec::new()), calls, 1),
         case(
             "step calls, plain loop, 64 stamps ahead",
             world(stamps(FEW, FAR)),
-            work,
+            calls,
             1,
         ),
         case(
             "step calls, plain loop, 4,096 stamps and records",
             world(stamps(MANY, FAR)).traced(trace),
-            Work::Steps(20_000),
+            Calls::Steps(20_000),
             1,
         ),
+        case(
+            "step calls, a loop of moves and immediates",
+            World::new(&moves(), Vec::new(), 0),
+            calls,
+            1,
+        ),
+    ]
+}
+
+/// Read calls.
+fn read_calls() -> Vec<Case> {
+    let case = |what, pairs| Case {
+        what,
+        work: Work::Read(pairs),
+        turns: 12,
+    };
+    vec![
+        case("read calls, moves and immediates", words::moves()),
+        case("read calls, all rows evenly", words::every_row()),
+        case("read calls, words that do not decode", words::undecoded()),
     ]
 }

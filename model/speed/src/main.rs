@@ -17,9 +17,13 @@ mod modelled;
 mod mspdebug;
 mod options;
 mod programs;
+mod random;
 mod size;
 mod subject;
 mod table;
+#[cfg(test)]
+mod tests;
+mod words;
 
 use options::Task;
 use std::process::ExitCode;
@@ -53,6 +57,6 @@ fn all(bench: &std::path::Path) -> Result<(), String> {
     }
     println!("{}", bench::rows(bench)?);
     println!("{}", mspdebug::row(plain.unwrap_or(f64::NAN))?);
-    println!("{}", size::row());
+    println!("{}", size::row(&library::archive()));
     Ok(())
 }

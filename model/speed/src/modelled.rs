@@ -1,10 +1,15 @@
 //! The model as a subject.
 
 use crate::programs::World;
-use crate::subject::{Last, Subject};
-use model::{Layout, Machine, Stop, Trace};
+use crate::subject::{Answer, Last, Subject};
+use crate::words::Pair;
+use model::{Instruction, Layout, Machine, Operand, Operation, Stop, Trace};
+use std::hint::black_box;
 
-pub struct Modelled {
+pub struct Modelled;
+
+/// A machine of the model, and what it is lent.
+pub struct Lent {
     machine: Machine,
     layout: Layout,
     memory: Vec<u8>,
@@ -18,29 +23,56 @@ fn trace(world: &World) -> Trace<'_> {
     }
 }
 
+/// What the model reads, in the library's numbers.
+pub fn read([first, second]: Pair) -> Option<Answer> {
+    let (instruction, length) = model::decode(first, second)?;
+    let (row, s, d, constant) = match instruction {
+        Instruction::Hlt => (0, 0, 0, 0),
+        Instruction::In(d) => (1, 0, d, 0),
+        Instruction::Out(s) => (2, s, 0, 0),
+        Instruction::Jz(s) => (3, s, 0, 0),
+        Instruction::Reti => (4, 0, 0, 0),
+        Instruction::Nop => (5, 0, 0, 0),
+        Instruction::Jmp(s) => (6, s, 0, 0),
+        Instruction::Mov(Operand::Register(s), d) => (7, s, d, 0),
+        Instruction::Mov(Operand::Pointed(s), d) => (8, s, d, 0),
+        Instruction::Store(s, d) => (9, s, d, 0),
+        Instruction::Mov(Operand::Constant(w), d) => (10, 0, d, w),
+        Instruction::Compute(Operation::Add, s, d) => (11, s, d, 0),
+        Instruction::Compute(Operation::Sub, s, d) => (12, s, d, 0),
+        Instruction::Compute(Operation::Cmp, s, d) => (13, s, d, 0),
+        Instruction::Compute(Operation::And, s, d) => (14, s, d, 0),
+        Instruction::Not(d) => (15, 0, d, 0),
+    };
+    let fields = [row, s.into(), d.into(), constant];
+    Some(Answer { fields, length })
+}
+
 impl Subject for Modelled {
-    fn start(world: &World) -> Modelled {
+    type Machine = Lent;
+
+    fn start(&self, world: &World) -> Lent {
         let mut machine = Machine::start(&world.memory).expect("start is taken");
         machine.clock = world.clock;
-        Modelled {
+        Lent {
             machine,
             layout: Layout::from(world.layout),
             memory: world.memory.clone(),
         }
     }
 
-    fn step(&mut self, world: &World) {
-        self.machine
-            .step(&mut self.memory, &self.layout, &world.stamps, trace(world))
+    fn step(&self, lent: &mut Lent, world: &World) {
+        lent.machine
+            .step(&mut lent.memory, &lent.layout, &world.stamps, trace(world))
             .expect("a step is taken");
     }
 
     /// Without a stop address, also where the world has one: an address that is never met changes nothing.
-    fn run(&mut self, world: &World, budget: u64) -> u64 {
-        self.machine
+    fn run(&self, lent: &mut Lent, world: &World, budget: u64) -> u64 {
+        lent.machine
             .run(
-                &mut self.memory,
-                &self.layout,
+                &mut lent.memory,
+                &lent.layout,
                 &world.stamps,
                 trace(world),
                 Stop::Never,
@@ -50,14 +82,27 @@ impl Subject for Modelled {
             .1
     }
 
-    fn last(self) -> Last {
+    fn last(
+        &self,
+        Lent {
+            machine, memory, ..
+        }: Lent,
+    ) -> Last {
         Last {
-            registers: self.machine.registers,
-            previous: self.machine.previous,
-            clock: self.machine.clock,
-            slot: self.machine.slot.unwrap_or(0),
-            alarm: self.machine.alarm.unwrap_or(0),
-            memory: self.memory,
+            registers: machine.registers,
+            previous: machine.previous,
+            clock: machine.clock,
+            slot: machine.slot.unwrap_or(0),
+            alarm: machine.alarm.unwrap_or(0),
+            memory,
         }
+    }
+
+    fn read(&self, [first, second]: Pair) {
+        black_box(model::decode(first, second));
+    }
+
+    fn answer(&self, pair: Pair) -> Option<Answer> {
+        read(pair)
     }
 }

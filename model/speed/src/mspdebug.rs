@@ -92,11 +92,11 @@ fn registers(text: &str) -> Option<Vec<u16>> {
 /// The same registers of the model after as many steps.
 fn expected(steps: u64) -> Option<Vec<u16>> {
     let world = World::new(&plain(), Vec::new(), 0);
-    let mut machine = Modelled::start(&world);
+    let mut machine = Modelled.start(&world);
     let mut left = steps;
     while left > 0 {
-        left -= machine.run(&world, left.min(1_000_000));
+        left -= Modelled.run(&mut machine, &world, left.min(1_000_000));
     }
-    let last = machine.last();
+    let last = Modelled.last(machine);
     Some(SEEN.iter().map(|&number| last.registers[number]).collect())
 }

@@ -121,6 +121,78 @@ pub fn reading() -> Vec<(u16, u16)> {
     words
 }
 
+/// A loop of 24 moves, half of them of a constant, with registers in no order, and a jump back: 25 steps, 38 cycles.
+pub fn moves() -> Vec<(u16, u16)> {
+    let code = [
+        0x4036, 0x4404, // MOV #loop r6
+        0x4035, 0x1B7E, // loop: MOV #1B7E r5
+        0x450C, // MOV r5 r12
+        0x4C09, // MOV r12 r9
+        0x403E, 0xFFFF, // MOV #FFFF r14
+        0x4907, // MOV r9 r7
+        0x4034, 0x0003, // MOV #3 r4
+        0x403B, 0x8000, // MOV #8000 r11
+        0x4E08, // MOV r14 r8
+        0x403D, 0x2C40, // MOV #2C40 r13
+        0x440F, // MOV r4 r15
+        0x4B05, // MOV r11 r5
+        0x403A, 0x0000, // MOV #0 r10
+        0x4D0C, // MOV r13 r12
+        0x4037, 0x7FFF, // MOV #7FFF r7
+        0x4039, 0x00A6, // MOV #A6 r9
+        0x4F0E, // MOV r15 r14
+        0x470B, // MOV r7 r11
+        0x4038, 0x5D11, // MOV #5D11 r8
+        0x4A04, // MOV r10 r4
+        0x403F, 0x4400, // MOV #4400 r15
+        0x403C, 0x0101, // MOV #101 r12
+        0x480D, // MOV r8 r13
+        0x4035, 0xE000, // MOV #E000 r5
+        0x450A, // MOV r5 r10
+        0x4600, // JMP &r6
+    ];
+    let mut words = at(0x4400, &code);
+    words.push((0xFFFE, 0x4400));
+    words
+}
+
+/// A loop of every row but HLT, each once and JZ twice, taken and not: 16 steps, 31 cycles. The alarm that OUT sets moves on in each turn.
+pub fn every_row() -> Vec<(u16, u16)> {
+    let code = [
+        0x4035, 0xFFFF, // MOV #FFFF r5
+        0x4036, 0x4410, // MOV #loop r6
+        0x4037, 0x2000, // MOV #2000 r7
+        0x403C, 0x442E, // MOV #equal r12
+        0x4031, 0x3000, // loop: MOV #3000 sp
+        0x0014, // IN r4
+        0x0025, // OUT r5
+        0x4303, // NOP
+        0x5408, // ADD r4 r8
+        0x8809, // SUB r8 r9
+        0xE03A, 0xFFFF, // NOT r10
+        0x4887, 0x0000, // MOV r8 0(r7)
+        0x472B, // MOV @r7 r11
+        0x9B08, // CMP r11 r8
+        0x003C, // JZ &r12, taken
+        0x0000, // begins nothing
+        0xF505, // equal: AND r5 r5
+        0x003C, // JZ &r12, not taken
+        0x4A0D, // MOV r10 r13
+        0x1300, // RETI
+        0x4600, // back: JMP &r6
+    ];
+    let stack = [0x0000, 0x4436]; // sr, back
+    let mut words = at(0x4400, &code);
+    words.extend(at(0x3000, &stack));
+    words.push((0xFFFE, 0x4400));
+    words
+}
+
+/// A vector to a word that begins nothing: each step is a reset, of 4 cycles.
+pub fn undecoded() -> Vec<(u16, u16)> {
+    vec![(0x4400, 0x0000), (0xFFFE, 0x4400)]
+}
+
 /// Words in a row.
 fn at(start: u16, words: &[u16]) -> Vec<(u16, u16)> {
     (start..).step_by(2).zip(words.iter().copied()).collect()

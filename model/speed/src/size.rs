@@ -1,15 +1,11 @@
-//! How large the static library is.
+//! How large a static library is.
 
+use std::path::Path;
 use std::process::Command;
 
-const LIBRARY: &str = concat!(
-    env!("CARGO_MANIFEST_DIR"),
-    "/../../crates/embed/out/libembed.a"
-);
-
 /// Code and constants, as `size` counts them.
-pub fn row() -> String {
-    let Ok(output) = Command::new("size").args(["-t", LIBRARY]).output() else {
+pub fn row(archive: &Path) -> String {
+    let Ok(output) = Command::new("size").arg("-t").arg(archive).output() else {
         return "no size program on the path: the library's size is left out".into();
     };
     let text = String::from_utf8_lossy(&output.stdout).into_owned();
