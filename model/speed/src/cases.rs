@@ -25,7 +25,36 @@ pub struct Case {
     pub work: Work,
     /// How often a round starts over.
     pub turns: u64,
+    /// The length of a round beside another archive, in parts of `WHOLE_TURNS` steps or of the list; 0 where it is no row there.
+    pub parts: u64,
 }
+
+impl Case {
+    /// The same, also measured beside another archive.
+    fn compared(self, parts: u64) -> Case {
+        Case { parts, ..self }
+    }
+
+    /// So many parts of its work, in one turn where it has a machine.
+    pub fn cut(self, parts: u64) -> Case {
+        let calls = |calls| match calls {
+            Calls::Run { .. } => run(parts * WHOLE_TURNS),
+            Calls::Steps(_) => Calls::Steps(parts * WHOLE_TURNS),
+        };
+        let (work, turns) = match self.work {
+            Work::Machine(world, old) => (Work::Machine(world, calls(old)), 1),
+            Work::Read(pairs) => (Work::Read(pairs), parts),
+        };
+        Case {
+            work,
+            turns,
+            ..self
+        }
+    }
+}
+
+/// Steps that are whole turns of each loop that is compared: 6, 7, 16 and 25 steps.
+pub const WHOLE_TURNS: u64 = 16_800;
 
 /// The most stamps and the most records, and a few.
 const MANY: u64 = 4_096;
@@ -53,11 +82,17 @@ pub fn cases() -> impl Iterator<Item = Case> {
     groups.into_iter().flat_map(|group| group())
 }
 
+/// Those that are measured beside another archive.
+pub fn compared() -> impl Iterator<Item = Case> {
+    cases().filter(|case| case.parts > 0)
+}
+
 fn case(what: &'static str, world: World, calls: Calls, turns: u64) -> Case {
     Case {
         what,
         work: Work::Machine(world, calls),
         turns,
+        parts: 0,
     }
 }
 
@@ -77,13 +112,14 @@ fn plain_runs() -> Vec<Case> {
     let long = runs(10, 1_000_000);
     let all = stamps(MANY, 0);
     vec![
-        case("run, plain loop", world(Vec::new(), 0), long, 1),
+        case("run, plain loop", world(Vec::new(), 0), long, 1).compared(10),
         case(
             "run, plain loop, a stop address never met",
             world(Vec::new(), 0).stopped_elsewhere(),
             long,
             1,
-        ),
+        )
+        .compared(10),
         case(
             "run, plain loop, a request pending",
             world(vec![1], 0),
@@ -144,7 +180,7 @@ fn module_runs() -> Vec<Case> {
     let world = |stamps| World::new(&through(), stamps, 0);
     let long = runs(5, 1_000_000);
     vec![
-        case("run, through the module", world(Vec::new()), long, 1),
+        case("run, through the module", world(Vec::new()), long, 1).compared(8),
         case(
             "run, module, a stop address never met",
             world(Vec::new()).stopped_elsewhere(),
@@ -156,7 +192,8 @@ fn module_runs() -> Vec<Case> {
             world(stamps(MANY, 0)),
             run(MODULE_STEPS * MANY),
             4,
-        ),
+        )
+        .compared(3),
         case(
             "run, module, a pulse each 50 cycles, 64",
             world(stamps(FEW, 0)),
@@ -184,7 +221,8 @@ fn readings() -> Vec<Case> {
             world(Vec::new(), 0),
             run(1_000_000),
             1,
-        ),
+        )
+        .compared(1),
         case(
             "run, a loop of IN, at a trace's start",
             world(first, 10),
@@ -215,19 +253,22 @@ fn mixed_runs() -> Vec<Case> {
             world(&moves()),
             runs(5, 1_000_000),
             1,
-        ),
+        )
+        .compared(10),
         case(
             "run, a loop of all rows but HLT",
             world(&every_row()),
             run(1_000_000),
             1,
-        ),
+        )
+        .compared(1),
         case(
             "run, resets on a word that does not decode",
             world(&undecoded()),
             run(500_000),
             1,
-        ),
+        )
+        .compared(1),
     ]
 }
 
@@ -237,13 +278,14 @@ fn steps() -> Vec<Case> {
     let calls = Calls::Steps(2_000_000);
     let trace = Trace::at(stamps(MANY, FAR + 25));
     vec![
-        case("step calls, plain loop", world(Vec::new()), calls, 1),
+        case("step calls, plain loop", world(Vec::new()), calls, 1).compared(2),
         case(
             "step calls, plain loop, 64 stamps ahead",
             world(stamps(FEW, FAR)),
             calls,
             1,
-        ),
+        )
+        .compared(1),
         case(
             "step calls, plain loop, 4,096 stamps and records",
             world(stamps(MANY, FAR)).traced(trace),
@@ -255,7 +297,8 @@ fn steps() -> Vec<Case> {
             World::new(&moves(), Vec::new(), 0),
             calls,
             1,
-        ),
+        )
+        .compared(2),
     ]
 }
 
@@ -265,6 +308,7 @@ fn read_calls() -> Vec<Case> {
         what,
         work: Work::Read(pairs),
         turns: 12,
+        parts: 1,
     };
     vec![
         case("read calls, moves and immediates", words::moves()),

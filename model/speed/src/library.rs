@@ -1,4 +1,4 @@
-//! The static library as a subject, by its functions.
+//! The static library as a subject, the one that is linked or another one that is loaded.
 
 use crate::programs::World;
 use crate::subject::{Answer, Last, Subject};

@@ -1,21 +1,26 @@
-//! Measures the static library against the model, on the same work in one process.
+//! Measures the static library against the model, or against another build of it, on the same work in one process.
 //!
 //! ```text
 //! cargo run --release --manifest-path model/speed/Cargo.toml
 //! cargo run --release --manifest-path model/speed/Cargo.toml -- --bench PATH
+//! cargo run --release --manifest-path model/speed/Cargo.toml -- --before PATH
 //! ```
 //!
-//! Each figure is the best of some rounds in which library and model take turns. The program
+//! Each figure is the best of some rounds in which both sides take turns. The program
 //! fails where the two do not end in the same state.
 
+mod before;
 mod bench;
 mod cases;
 mod child;
+mod instructions;
 mod library;
+mod loaded;
 mod measure;
 mod modelled;
 mod mspdebug;
 mod options;
+mod places;
 mod programs;
 mod random;
 mod size;
@@ -31,7 +36,9 @@ use std::process::ExitCode;
 fn main() -> ExitCode {
     let done = options::options(std::env::args().skip(1)).and_then(|task| match task {
         Task::Measure(bench) => all(&bench),
+        Task::Before(archive) => before::all(&archive),
         Task::ModelBench => bench::be_model().map_err(|error| error.to_string()),
+        Task::Counted(counted) => instructions::be_counted(&counted),
     });
     match done {
         Ok(()) => ExitCode::SUCCESS,

@@ -19,9 +19,9 @@ pub struct Row {
 }
 
 /// What a round of one side took and came to; where words are read, each is a step.
-struct Round {
-    nanoseconds: f64,
-    steps: u64,
+pub struct Round {
+    pub nanoseconds: f64,
+    pub steps: u64,
     end: End,
 }
 
@@ -42,7 +42,7 @@ impl Round {
     }
 
     /// Whether both came to the same by as many steps.
-    fn agrees(&self, other: &Round) -> bool {
+    pub fn agrees(&self, other: &Round) -> bool {
         self.steps == other.steps && self.end == other.end
     }
 }
@@ -67,7 +67,7 @@ pub fn row(case: &Case) -> Result<Row, String> {
 }
 
 /// One round of one side. Only the calls are timed.
-fn round<S: Subject>(subject: &S, case: &Case) -> Round {
+pub fn round<S: Subject>(subject: &S, case: &Case) -> Round {
     match &case.work {
         Work::Machine(world, calls) => machine_round(subject, world, *calls, case.turns),
         Work::Read(pairs) => read_round(subject, pairs, case.turns),

@@ -1,7 +1,11 @@
-//! That the lists and programs are what they are said to be, by the model.
+//! That the lists and programs are what they are said to be, by the model, and that library and model agree on them.
 
-use crate::modelled;
+use crate::cases::{compared, Work, WHOLE_TURNS};
+use crate::library::{Library, Linked};
+use crate::measure::round;
+use crate::modelled::{self, Modelled};
 use crate::programs::{every_row, moves, undecoded, World};
+use crate::subject::Subject;
 use crate::words::{self, Pair};
 use model::{begins, Layout, Machine, Outcome, NO_TRACE, SR, Z};
 
@@ -131,4 +135,37 @@ fn the_loop_of_all_rows_has_each_but_hlt() {
 fn each_step_that_does_not_decode_is_a_reset() {
     let steps = stepped(&undecoded(), 10);
     assert!(steps.iter().all(|step| step.outcome == Outcome::Reset(3)));
+}
+
+#[test]
+fn library_and_model_agree() {
+    for case in compared() {
+        let case = case.cut(1);
+        let agree = round(&Library(Linked), &case).agrees(&round(&Modelled, &case));
+        assert!(agree, "{}", case.what);
+    }
+}
+
+/// Where pc is after so many steps of the model.
+fn pc_after(world: &World, steps: u64) -> u16 {
+    let mut machine = Modelled.start(world);
+    assert_eq!(Modelled.run(&mut machine, world, steps), steps);
+    Modelled.last(machine).registers[0]
+}
+
+#[test]
+fn a_part_is_whole_turns() {
+    let worlds = compared().filter_map(|case| match case.work {
+        Work::Machine(world, _) if world.stamps.is_empty() => Some(world),
+        _ => None,
+    });
+    let mut seen = 0;
+    for world in worlds {
+        assert_eq!(
+            pc_after(&world, WHOLE_TURNS),
+            pc_after(&world, 2 * WHOLE_TURNS)
+        );
+        seen += 1;
+    }
+    assert!(seen >= 8);
 }
