@@ -47,9 +47,11 @@ pub struct Progress {
 }
 
 // In each function the pointers come from references to what their types say, exclusive ones where
-// the library writes, so what they point to is apart; a size beside a pointer is its slice's.
+// the library writes, so what they point to is apart; a size beside a pointer is its slice's. They may
+// be compiled into their callers: else a call's lists are written to memory and read back at once.
 impl Numbers {
     /// The start state of a memory.
+    #[inline]
     pub fn start(&mut self, memory: &[u8]) -> u8 {
         // SAFETY: as above.
         unsafe {
@@ -65,6 +67,7 @@ impl Numbers {
     }
 
     /// One step: its kind, and its cause if it is a reset.
+    #[inline]
     pub fn step(
         &mut self,
         memory: &mut [u8],
@@ -96,6 +99,7 @@ impl Numbers {
     }
 
     /// Many steps: why it stopped, and how many they were.
+    #[inline]
     pub fn run(
         &mut self,
         memory: &mut [u8],
@@ -133,6 +137,7 @@ impl Numbers {
         clippy::too_many_arguments,
         reason = "those of run, and the stop address"
     )]
+    #[inline]
     pub fn run_to(
         &mut self,
         memory: &mut [u8],
@@ -169,6 +174,7 @@ impl Numbers {
 
     /// The next lines of a run's transcript, as many as `out` has room for: how far it has come, and
     /// how many bytes were written.
+    #[inline]
     pub fn transcribe(
         &mut self,
         memory: &mut [u8],
@@ -207,6 +213,7 @@ impl Numbers {
 
 /// The number of the first rule that a layout breaks, 1 to 4, or 0. Nothing is refused.
 #[must_use]
+#[inline]
 pub fn fault(layout: &Addresses) -> u8 {
     // SAFETY: as above.
     unsafe { ffi::enclave_fault(layout) }
@@ -214,6 +221,7 @@ pub fn fault(layout: &Addresses) -> u8 {
 
 /// What an instruction at `from` may do to the byte at `address`: execute 1, read 2, write 4, or a
 /// sum of those.
+#[inline]
 pub fn access(layout: &Addresses, from: u16, address: u16, rights: &mut u8) -> u8 {
     // SAFETY: as above.
     unsafe { ffi::enclave_access(layout, from, address, rights) }
@@ -221,12 +229,14 @@ pub fn access(layout: &Addresses, from: u16, address: u16, rights: &mut u8) -> u
 
 /// The instruction that two words begin with, as row, source, destination and constant, and its
 /// length in words.
+#[inline]
 pub fn read(first: u16, second: u16, fields: &mut [u16; 4], length: &mut u8) -> u8 {
     // SAFETY: as above.
     unsafe { ffi::enclave_read(first, second, fields, length) }
 }
 
 /// The words of an instruction and how many they are; the second is left alone where there is none.
+#[inline]
 pub fn write(fields: &[u16; 4], first: &mut u16, second: &mut u16, length: &mut u8) -> u8 {
     // SAFETY: as above.
     unsafe { ffi::enclave_write(fields, first, second, length) }
