@@ -18,7 +18,7 @@
 #include <stdint.h>
 
 /* The version of this header and of the Rust crate beside it; CHANGELOG.md says what each brought. */
-#define ENCLAVE_VERSION "0.4.0"
+#define ENCLAVE_VERSION "0.4.1"
 #define ENCLAVE_VERSION_MAJOR 0
 #define ENCLAVE_VERSION_MINOR 4
 #define ENCLAVE_VERSION_PATCH 0
