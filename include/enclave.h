@@ -21,7 +21,7 @@
 #define ENCLAVE_VERSION "0.4.1"
 #define ENCLAVE_VERSION_MAJOR 0
 #define ENCLAVE_VERSION_MINOR 4
-#define ENCLAVE_VERSION_PATCH 0
+#define ENCLAVE_VERSION_PATCH 1
 
 #ifdef __cplusplus
 extern "C" {
