@@ -71,6 +71,29 @@ pub fn words(instruction: &Instruction) -> u8 {
     }
 }
 
+/// An instruction by the table: the number of its row, HLT being 0, its s, its d
+/// and its constant, each 0 where it has none.
+pub fn parts(instruction: &Instruction) -> (u16, u8, u8, u16) {
+    match *instruction {
+        Hlt => (0, 0, 0, 0),
+        In(d) => (1, 0, d, 0),
+        Out(s) => (2, s, 0, 0),
+        Jz(s) => (3, s, 0, 0),
+        Reti => (4, 0, 0, 0),
+        Nop => (5, 0, 0, 0),
+        Jmp(s) => (6, s, 0, 0),
+        Mov(Register(s), d) => (7, s, d, 0),
+        Mov(Pointed(s), d) => (8, s, d, 0),
+        Store(s, d) => (9, s, d, 0),
+        Mov(Constant(w), d) => (10, 0, d, w),
+        Compute(Add, s, d) => (11, s, d, 0),
+        Compute(Sub, s, d) => (12, s, d, 0),
+        Compute(Cmp, s, d) => (13, s, d, 0),
+        Compute(And, s, d) => (14, s, d, 0),
+        Not(d) => (15, 0, d, 0),
+    }
+}
+
 /// The instruction that a first word begins; the constant of MOV #w d is left
 /// at 0. "All else does not decode."
 fn first_word(word: u16) -> Option<Instruction> {

@@ -46,7 +46,9 @@ mod tests;
 
 pub use arithmetic::{compute, compute_not, C, GIE, N, V, Z};
 pub use calls::{End, Stop, CLOCK_LIMIT, MOST_STEPS};
-pub use instruction::{begins, cycles, decode, encode, words, Instruction, Operand, Operation};
+pub use instruction::{
+    begins, cycles, decode, encode, parts, words, Instruction, Operand, Operation,
+};
 pub use memory::{read_word, write_word, Layout, Right, MEMORY_BYTES};
 pub use sheet::{bench, read_sheet, Sheet};
 pub use state::{Machine, SavedContext, PC, SP, SR, VECTOR, ZERO};

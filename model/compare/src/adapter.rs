@@ -2,7 +2,7 @@
 //! a neighbour of `model`.
 
 use super::model::{
-    decode, encode, read_sheet, Instruction, Layout, Machine, Operand, Operation, Right,
+    decode, encode, parts, read_sheet, Instruction, Layout, Machine, Operand, Operation, Right,
     SavedContext, Stop, Trace,
 };
 use crate::rides::Ride;
@@ -123,24 +123,7 @@ const OPERATIONS: [Operation; 4] = [
 
 fn read(first: u16, second: u16) -> Read {
     let (instruction, length) = decode(first, second).ok_or(9)?;
-    let (row, s, d, constant) = match instruction {
-        Instruction::Hlt => (0, 0, 0, 0),
-        Instruction::In(d) => (1, 0, d, 0),
-        Instruction::Out(s) => (2, s, 0, 0),
-        Instruction::Jz(s) => (3, s, 0, 0),
-        Instruction::Reti => (4, 0, 0, 0),
-        Instruction::Nop => (5, 0, 0, 0),
-        Instruction::Jmp(s) => (6, s, 0, 0),
-        Instruction::Mov(Operand::Register(s), d) => (7, s, d, 0),
-        Instruction::Mov(Operand::Pointed(s), d) => (8, s, d, 0),
-        Instruction::Store(s, d) => (9, s, d, 0),
-        Instruction::Mov(Operand::Constant(w), d) => (10, 0, d, w),
-        Instruction::Compute(operation, s, d) => {
-            let place = OPERATIONS.iter().position(|&other| other == operation);
-            (11 + place.unwrap_or(9) as u16, s, d, 0)
-        }
-        Instruction::Not(d) => (15, 0, d, 0),
-    };
+    let (row, s, d, constant) = parts(&instruction);
     Ok(([row, s as u16, d as u16, constant], length))
 }
 

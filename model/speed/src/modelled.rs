@@ -3,7 +3,7 @@
 use crate::programs::World;
 use crate::subject::{Answer, Last, Subject};
 use crate::words::Pair;
-use model::{Instruction, Layout, Machine, Operand, Operation, Stop, Trace};
+use model::{Layout, Machine, Stop, Trace};
 use std::hint::black_box;
 
 pub struct Modelled;
@@ -26,24 +26,7 @@ fn trace(world: &World) -> Trace<'_> {
 /// What the model reads, in the library's numbers.
 pub fn read([first, second]: Pair) -> Option<Answer> {
     let (instruction, length) = model::decode(first, second)?;
-    let (row, s, d, constant) = match instruction {
-        Instruction::Hlt => (0, 0, 0, 0),
-        Instruction::In(d) => (1, 0, d, 0),
-        Instruction::Out(s) => (2, s, 0, 0),
-        Instruction::Jz(s) => (3, s, 0, 0),
-        Instruction::Reti => (4, 0, 0, 0),
-        Instruction::Nop => (5, 0, 0, 0),
-        Instruction::Jmp(s) => (6, s, 0, 0),
-        Instruction::Mov(Operand::Register(s), d) => (7, s, d, 0),
-        Instruction::Mov(Operand::Pointed(s), d) => (8, s, d, 0),
-        Instruction::Store(s, d) => (9, s, d, 0),
-        Instruction::Mov(Operand::Constant(w), d) => (10, 0, d, w),
-        Instruction::Compute(Operation::Add, s, d) => (11, s, d, 0),
-        Instruction::Compute(Operation::Sub, s, d) => (12, s, d, 0),
-        Instruction::Compute(Operation::Cmp, s, d) => (13, s, d, 0),
-        Instruction::Compute(Operation::And, s, d) => (14, s, d, 0),
-        Instruction::Not(d) => (15, 0, d, 0),
-    };
+    let (row, s, d, constant) = model::parts(&instruction);
     let fields = [row, s.into(), d.into(), constant];
     Some(Answer { fields, length })
 }

@@ -2,7 +2,8 @@
 //! layers: words, arithmetic, access.
 
 use model::{
-    compute, compute_not, cycles, decode, encode, Instruction, Layout, Operand, Operation, Right,
+    begins, compute, compute_not, cycles, decode, encode, parts, Instruction, Layout, Operand,
+    Operation, Right,
 };
 
 const EDGES: [u16; 26] = [
@@ -62,7 +63,7 @@ fn main() {
 
     // Instructions that no words stand for, each beside a neighbour that has words.
     for instruction in writable_or_not() {
-        let (kind, s, d, constant) = parts(&instruction);
+        let (kind, s, d, constant) = kind_parts(&instruction);
         print!("W {kind} {s} {d} {constant:04x}");
         match encode(&instruction) {
             Some(words) => words.iter().for_each(|word| print!(" {word:04x}")),
@@ -70,6 +71,13 @@ fn main() {
         }
         println!();
     }
+
+    let count = |length| {
+        (0..=0xFFFF)
+            .filter(|&first| begins(first) == Some(length))
+            .count()
+    };
+    println!("N {} {}", count(1), count(2));
 
     // Part B, arithmetic.
     for (name, operation) in OPERATIONS {
@@ -116,7 +124,7 @@ fn word_line(first: u16, second: u16) {
         println!("{first:04x} {second:04x} E 9");
         return;
     };
-    let (kind, s, d, constant) = parts(&instruction);
+    let (kind, s, d, constant) = kind_parts(&instruction);
     let c = cycles(&instruction);
     print!("{first:04x} {second:04x} {kind} {s} {d} {constant:04x} {words} {c}");
     for word in encode(&instruction).expect("what decodes can be encoded") {
@@ -157,21 +165,13 @@ fn writable_or_not() -> Vec<Instruction> {
     ]
 }
 
-/// Kind number, source, destination, constant.
-fn parts(instruction: &Instruction) -> (u8, u8, u8, u16) {
-    match *instruction {
-        Instruction::Hlt => (0, 0, 0, 0),
-        Instruction::In(d) => (1, 0, d, 0),
-        Instruction::Out(s) => (2, s, 0, 0),
-        Instruction::Jz(s) => (3, s, 0, 0),
-        Instruction::Reti => (4, 0, 0, 0),
-        Instruction::Nop => (5, 0, 0, 0),
-        Instruction::Jmp(s) => (6, s, 0, 0),
-        Instruction::Mov(Operand::Register(s), d) => (7, s, d, 0),
-        Instruction::Mov(Operand::Pointed(s), d) => (8, s, d, 0),
-        Instruction::Store(s, d) => (9, s, d, 0),
-        Instruction::Mov(Operand::Constant(w), d) => (10, 0, d, w),
-        Instruction::Compute(_, s, d) => (11, s, d, 0),
-        Instruction::Not(d) => (12, 0, d, 0),
-    }
+/// Kind number, source, destination, constant: ADD, SUB, CMP and AND are of one kind.
+fn kind_parts(instruction: &Instruction) -> (u16, u8, u8, u16) {
+    let (row, s, d, constant) = parts(instruction);
+    let kind = match row {
+        11..=14 => 11,
+        15 => 12,
+        other => other,
+    };
+    (kind, s, d, constant)
 }
