@@ -89,8 +89,8 @@ pub request_upcoming : (L : Layout) (r : Requests) (alarm : Option ℕ) (a b : �
 unfolding request
 request_upcoming L r alarm a b p =
     rw (
-      upcoming_earliest a b r.lists.stamps.now r.upcoming r.lists.timed p.stamps,
-      upcoming_earliest a b r.lists.trace.stamps.now r.upcoming_record (trace_timed (lent_trace r.lists.trace) r.lists.traced) p.records,
+      upcoming_earliest a b r.lists.stamps.now r.upcoming p.tested.timed p.stamps,
+      upcoming_earliest a b r.lists.trace.stamps.now r.upcoming_record (trace_timed (lent_trace r.lists.trace) p.tested.traced) p.records,
     )
 
 -- ---- stamps that the clock has passed
@@ -130,6 +130,7 @@ module _ (stamps : List ℕ) (clock upcoming : ℕ) where
 pub requests_later : (r : Requests) (clock later : ℕ) → clock ≤ later → AtClock r clock → HasPassed r later
 requests_later r clock later h p =
     record {
+      tested = p.tested;
       stamps = passed_later r.lists.stamps.now clock r.upcoming later h p.stamps;
       records = passed_later r.lists.trace.stamps.now clock r.upcoming_record later h p.records;
     }

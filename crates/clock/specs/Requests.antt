@@ -1,7 +1,8 @@
 -- The requests of a run's lists, as the clock goes on.
-use Rattle.std.specs.Prelude.{ℕ, ◌+◌, ◌≤◌}
+use Rattle.std.specs.Prelude.{◌≡◌, ℕ, ◌+◌, ◌≤◌, true}
 use Rattle.layout.specs.declared.sections.Layout.{Layout}
 use Rattle.definition.specs.Setting.{Setting, setting_of}
+use Rattle.definition.specs.Calls.{timetable, trace_fits}
 use Rattle.clock.specs.declared.lists.RequestLists.{RequestLists}
 use Rattle.clock.specs.declared.time.Requests.{Requests}
 use Rattle.clock.specs.Trace.{lent_trace}
@@ -15,13 +16,20 @@ setting_by L lists = setting_of L lists.stamps.now (lent_trace lists.trace)
 abbrev pub setting_with : Layout → Requests → Setting
 setting_with L r = setting_by L r.lists
 
--- the clock has passed the stamps before both indices
+-- the lists are a timetable and a trace, as a call has tested
+pub record Tested (lists : RequestLists) : Type 0 where
+  pub timed : timetable lists.stamps.now ≡ true
+  pub traced : trace_fits (lent_trace lists.trace) ≡ true
+
+-- the clock has passed the stamps before both indices, of lists that are tested
 pub record HasPassed (r : Requests) (clock : ℕ) : Type 0 where
+  pub tested : Tested r.lists
   pub stamps : StampsPassed r.lists.stamps.now clock r.upcoming
   pub records : StampsPassed r.lists.trace.stamps.now clock r.upcoming_record
 
--- the indices are those of the upcoming stamp and of the upcoming record at this clock value
+-- the indices are those of the upcoming stamp and of the upcoming record at this clock value, of lists that are tested
 pub record AtClock (r : Requests) (clock : ℕ) : Type 0 where
+  pub tested : Tested r.lists
   pub stamps : IsUpcoming r.lists.stamps.now clock r.upcoming
   pub records : IsUpcoming r.lists.trace.stamps.now clock r.upcoming_record
 

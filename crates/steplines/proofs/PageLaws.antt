@@ -22,7 +22,7 @@ use Rattle.steplines.specs.declared.steps.StepsWritten.{StepsWritten}
 use Rattle.transcript.specs.Transcript.{end_line}
 use Rattle.clock.specs.declared.lists.RequestLists.{RequestLists}
 use Rattle.clock.specs.declared.time.Requests.{Requests}
-use Rattle.clock.specs.Requests.{setting_by, setting_with, HasPassed, AtClock}
+use Rattle.clock.specs.Requests.{setting_by, setting_with, Tested, HasPassed, AtClock}
 use Rattle.clock.proofs.UpcomingLaws.{requests_later}
 use Rattle.transcript.proofs.TranscriptLaws.{Put, put_then}
 use Rattle.steplines.specs.declared.remaining.Remaining.{Remaining}
@@ -104,16 +104,20 @@ module _ (S : Setting) (start made budget : ℕ) (from : World) (entry : List �
   abbrev pub whole : Page
   whole = page_from S (length entry - start) made (budget - made) from
 
--- what the loop keeps: the lines so far stand in the buffer, and what is left to write from here makes the whole page
+-- what the loop keeps: the lines so far stand in the buffer, and, of tested lists, what is left to write from here makes the whole page
 module _ (L : Layout) (start made budget : ℕ) (from : World) (entry : List ℕ) where
+  -- of tested lists: the upcoming indices, and that what is left to write behind a text makes the whole page
+  pub record PageLeads (w : World) (steps filled : ℕ) (r : Requests) (text : List ℕ) : Type 0 where
+    pub here : AtClock r w.state.time.clock
+    pub lands : whole (setting_with L r) start made budget from entry
+        ≡ behind text (page_from (setting_with L r) (length entry - filled) steps (budget - steps) w)
+
   pub record PageKeeps (out : List ℕ) (w : World) (steps filled : ℕ) (r : Requests) : Type 0 where
     pub size : length w.memory ≡ length from.memory
     pub fits : filled ≤ length entry
     pub text : List ℕ
     pub put : Put entry out start filled text
-    pub here : AtClock r w.state.time.clock
-    pub lands : whole (setting_with L r) start made budget from entry
-        ≡ behind text (page_from (setting_with L r) (length entry - filled) steps (budget - steps) w)
+    pub leads : Tested r.lists → PageLeads w steps filled r text
 
   module _ (out : List ℕ) (w : World) (steps filled : ℕ) (r : Requests) (t : PageKeeps out w steps filled r) where
     abbrev S : Setting
@@ -125,10 +129,10 @@ module _ (L : Layout) (start made budget : ℕ) (from : World) (entry : List ℕ
 
     -- a line more
     pub page_next : line_room ≤ length out - filled → course w.state.halted w.state.time.clock steps budget ≡ None
-        → (m : State) (bytes : List ℕ) (o : Outcome) → gives m bytes o ≡ step_of S w
+        → (m : State) (bytes : List ℕ) (o : Outcome) → (Tested r.lists → gives m bytes o ≡ step_of S w)
         → length bytes ≡ length w.memory → (further : List ℕ) (next : ℕ) → next ≤ length out
         → Put out further filled next (line_of (steps + 1) (gives m bytes o))
-        → (later : Requests) → later.lists ≡ r.lists → AtClock later m.time.clock
+        → (later : Requests) → later.lists ≡ r.lists → (Tested r.lists → AtClock later m.time.clock)
         → PageKeeps further (world m bytes) (steps + 1) next later
     page_next i g m bytes o s b further next k p later e h =
         let l = page_length in
@@ -141,50 +145,55 @@ module _ (L : Layout) (start made budget : ℕ) (from : World) (entry : List ℕ
           fits = omega arith;
           text = t.text ++ line;
           put = put_then t.put p;
-          here = h;
-          lands =
-              ap (λ (z : Setting). whole z start made budget from entry) same
-              ∙ t.lands
-              ∙ ap (behind t.text)
-              (page_course S (length entry - filled) steps budget w more
-              ∙ ap (by_course steps w (further_from S (length entry - filled) steps budget w)) g
-              ∙ ap (λ (z : Step). behind (line_of (steps + 1) z) (page_from S (length entry - filled - length (line_of (steps + 1) z)) (steps + 1) (budget - (steps + 1)) (world_after z))) (sym s)
-              ∙ ap (λ (z : ℕ). behind line (page_from S z (steps + 1) (budget - (steps + 1)) (world m bytes))) f)
-              ∙ behind_twice t.text line (page_from S (length entry - next) (steps + 1) (budget - (steps + 1)) (world m bytes))
-              ∙ ap (λ (z : Setting). behind (t.text ++ line) (page_from z (length entry - next) (steps + 1) (budget - (steps + 1)) (world m bytes))) (sym same);
+          leads = λ q.
+              let tested = subst Tested e q in
+              record {
+                here = h tested;
+                lands =
+                    ap (λ (z : Setting). whole z start made budget from entry) same
+                    ∙ (t.leads tested).lands
+                    ∙ ap (behind t.text)
+                    (page_course S (length entry - filled) steps budget w more
+                    ∙ ap (by_course steps w (further_from S (length entry - filled) steps budget w)) g
+                    ∙ ap (λ (z : Step). behind (line_of (steps + 1) z) (page_from S (length entry - filled - length (line_of (steps + 1) z)) (steps + 1) (budget - (steps + 1)) (world_after z))) (sym (s tested))
+                    ∙ ap (λ (z : ℕ). behind line (page_from S z (steps + 1) (budget - (steps + 1)) (world m bytes))) f)
+                    ∙ behind_twice t.text line (page_from S (length entry - next) (steps + 1) (budget - (steps + 1)) (world m bytes))
+                    ∙ ap (λ (z : Setting). behind (t.text ++ line) (page_from z (length entry - next) (steps + 1) (budget - (steps + 1)) (world m bytes))) (sym same);
+              };
         }
 
     -- no room for a line
-    pub page_ends_full : length out - filled < line_room → PageWritten (whole S start made budget from entry) entry out start filled steps w Steps
-    page_ends_full i =
+    pub page_ends_full : Tested r.lists → length out - filled < line_room
+        → PageWritten (whole S start made budget from entry) entry out start filled steps w Steps
+    page_ends_full q i =
         let l = page_length in
-        let e = t.lands ∙ ap (behind t.text) (page_full S (length entry - filled) steps (budget - steps) w (omega arith)) in
+        let e = (t.leads q).lands ∙ ap (behind t.text) (page_full S (length entry - filled) steps (budget - steps) w (omega arith)) in
         page_written _ entry out start filled steps w Steps (t.text ++ []) e (rw append-nil t.put) t.fits
 
     -- the end's line
-    pub page_ends_last : line_room ≤ length out - filled → (end : End) → Some end ≡ course w.state.halted w.state.time.clock steps budget
+    pub page_ends_last : Tested r.lists → line_room ≤ length out - filled → (end : End) → Some end ≡ course w.state.halted w.state.time.clock steps budget
         → (exit : List ℕ) (next : ℕ) → Put out exit filled next (end_line end steps w.state.time.clock) → next ≤ length out
         → PageWritten (whole S start made budget from entry) entry exit start next steps w Nothing
-    page_ends_last i end g exit next p k =
+    page_ends_last q i end g exit next p k =
         let l = page_length in
-        let e = t.lands
+        let e = (t.leads q).lands
         ∙ ap (behind t.text)
         (page_course S (length entry - filled) steps budget w (omega arith)
         ∙ ap (by_course steps w (further_from S (length entry - filled) steps budget w)) (sym g)) in
         page_written _ entry exit start next steps w Nothing (t.text ++ end_line end steps w.state.time.clock) e (put_then t.put p) (omega arith)
 
     -- the stamps before the upcoming ones are passed after a step too
-    pub page_passed : w.state.halted ≡ false → (m : State) (bytes : List ℕ) (o : Outcome) → gives m bytes o ≡ step_of S w
+    pub page_passed : Tested r.lists → w.state.halted ≡ false → (m : State) (bytes : List ℕ) (o : Outcome) → gives m bytes o ≡ step_of S w
         → HasPassed r m.time.clock
-    page_passed h m bytes o s =
+    page_passed q h m bytes o s =
         let rises = clock_rises S w.state w.memory h in
         let e : m.time.clock ≡ (step_of S w).state.time.clock = ap (λ (z : Step). z.state.time.clock) s in
-        requests_later r w.state.time.clock m.time.clock (omega arith) t.here
+        requests_later r w.state.time.clock m.time.clock (omega arith) (t.leads q).here
 
 -- the page where the loop ends, of the lists that its requests stand on
 module _ (L : Layout) (start made budget : ℕ) (from : World) (entry out rs saved mem : List ℕ) (c : Control) (steps filled : ℕ) (r : Requests)
     (t : PageKeeps L start made budget from entry out (world (with_registers rs saved c) mem) steps filled r)
-    (T : RequestLists) (same : r.lists ≡ T) where
+    (T : RequestLists) (same : r.lists ≡ T) (tested : Tested T) where
   -- what is written of the requests' lists
   of_lists : (exit : List ℕ) (done : StepsWritten)
       → PageWritten (whole (setting_with L r) start made budget from entry) entry exit start done.filled done.steps
@@ -202,7 +211,7 @@ module _ (L : Layout) (start made budget : ℕ) (from : World) (entry out rs sav
       (world (with_registers rs saved done.control) mem) done.remaining
   page_ends i end g exit done l =
       let p = page_ends_last L start made budget from entry out (world (with_registers rs saved c) mem) steps filled r t
-      i end g exit done.filled (record { ends = l.ends; lies = l.bytes }) l.fits in
+      (subst Tested (sym same) tested) i end g exit done.filled (record { ends = l.ends; lies = l.bytes }) l.fits in
       of_lists exit done
       (record {
         bytes = p.bytes;
@@ -221,4 +230,4 @@ module _ (L : Layout) (start made budget : ℕ) (from : World) (entry out rs sav
       of_lists out done
       (subst (λ (z : StepsWritten). PageWritten (whole (setting_with L r) start made budget from entry) entry out start z.filled z.steps
       (world (with_registers rs saved z.control) mem) z.remaining) (sym e)
-      (page_ends_full L start made budget from entry out (world (with_registers rs saved c) mem) steps filled r t i))
+      (page_ends_full L start made budget from entry out (world (with_registers rs saved c) mem) steps filled r t (subst Tested (sym same) tested) i))

@@ -10,7 +10,7 @@ ghost use Rattle.steplines.specs.Page.{line_room, page_from};
 ghost use Rattle.steplines.specs.internal.Course.{course};
 ghost use Rattle.steplines.specs.internal.Written.{PageWritten, LastLine, no_line};
 ghost use Rattle.base.specs.Limits.{last_clock};
-ghost use Rattle.clock.specs.Requests.{setting_by, setting_with, AtClock};
+ghost use Rattle.clock.specs.Requests.{setting_by, setting_with, Tested, AtClock};
 
 use crate::remaining::Remaining;
 use answers::answer::{End, Outcome};
@@ -161,7 +161,7 @@ pub fn write_steps(
     out: &mut [u8],
     start: usize,
 ) -> StepsWritten
-    ensures { start ≤ length out.old → PageWritten (page_from (setting_by layout lists.entry) (length out.old - start) made (budget - made) (world (with_registers registers.old saved.old control) mem.old)) out.old out.new start result.filled result.steps (world (with_registers registers.new saved.new result.control) mem.new) result.remaining }
+    ensures { Tested lists.entry → start ≤ length out.old → PageWritten (page_from (setting_by layout lists.entry) (length out.old - start) made (budget - made) (world (with_registers registers.old saved.old control) mem.old)) out.old out.new start result.filled result.steps (world (with_registers registers.new saved.new result.control) mem.new) result.remaining }
 {
     if start > out.len() {
         return no_line(control, made, start);

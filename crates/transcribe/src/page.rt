@@ -7,7 +7,7 @@ ghost use Rattle.definition.specs.Calls.{transcript_tests};
 ghost use Rattle.steplines.specs.declared.remaining.Remaining.TheVariants.{RefusalLine as REFUSAL, Header as HEADER};
 ghost use Rattle.steplines.specs.Page.{page_from};
 ghost use Rattle.clock.specs.Trace.{lent_trace};
-ghost use Rattle.clock.specs.Requests.{setting_by};
+ghost use Rattle.clock.specs.Requests.{setting_by, Tested};
 ghost use Rattle.transcribe.specs.Transcribe.{page_of};
 ghost use Rattle.transcribe.specs.Promise.{world_of, page_by};
 ghost use Rattle.transcribe.specs.internal.Filled.{steps_remain, PageFilled};
@@ -52,7 +52,8 @@ fn run_page(
     out: &mut [u8],
     start: usize,
 ) -> Filled
-    requires { start ≤ length out.old }
+    requires room { start ≤ length out.old }
+    requires tested { Tested lists }
     ensures { PageFilled (page_from (setting_by layout lists.entry) (length out.old - start) t.steps (t.budget - t.steps) (world_of t mem.old)) unrefused t result mem.new out.old out.new start }
 {
     let mut registers = t.state.registers;
@@ -80,26 +81,9 @@ fn run_page(
     }
 }
 
-// The header, and the lines of the run behind it.
+// The page of a run that is taken: the header first, where it is still to come, and the lines of the run behind it. One function writes both: with
+// the header in another, what that handed back was copied, and the library's archive needed memcpy for it.
 #[tactic(auto, using(crate::proofs::FilledLaws::unfilled, crate::proofs::FilledLaws::header_full))]
-fn header_page(
-    t: Transcript,
-    mem: &mut [u8],
-    layout: Layout,
-    lists: RequestLists<'_>,
-    out: &mut [u8],
-) -> Filled
-    requires { t.remaining ≡ HEADER }
-    ensures { PageFilled (page_of (setting_by layout lists.entry) (length out.old) t.steps (t.budget - t.steps) (world_of t mem.old) t.remaining) unrefused t result mem.new out.old out.new 0 }
-{
-    if out.len() < LINE_ROOM {
-        return Filled::empty(t);
-    }
-    let start = header_line(out);
-    run_page(t, mem, layout, lists, out, start)
-}
-
-// The page of a run that is taken: the header first, where it is still to come.
 fn taken_page(
     t: Transcript,
     mem: &mut [u8],
@@ -107,13 +91,18 @@ fn taken_page(
     lists: RequestLists<'_>,
     out: &mut [u8],
 ) -> Filled
-    requires { steps_remain t.remaining ≡ true }
+    requires remain { steps_remain t.remaining ≡ true }
+    requires tested { Tested lists }
     ensures { PageFilled (page_of (setting_by layout lists.entry) (length out.old) t.steps (t.budget - t.steps) (world_of t mem.old) t.remaining) unrefused t result mem.new out.old out.new 0 }
 {
-    match t.remaining {
-        Remaining::Header => header_page(t, mem, layout, lists, out),
-        _ => run_page(t, mem, layout, lists, out, 0),
+    let Remaining::Header = t.remaining else {
+        return run_page(t, mem, layout, lists, out, 0);
+    };
+    if out.len() < LINE_ROOM {
+        return Filled::empty(t);
     }
+    let start = header_line(out);
+    run_page(t, mem, layout, lists, out, start)
 }
 
 // The page of a run, if it is taken: its tests are made once.

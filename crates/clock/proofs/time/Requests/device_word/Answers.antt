@@ -6,6 +6,6 @@ use Rattle.clock.proofs.time.Requests.device_word.Goals as goal
 
 pub returns : goal.returns
 returns c = λ L h.
-    let f = c.args.self.lists.traced in
+    let f = h.tested.traced in
     c.word_before.ensures
-    ∙ sym (device_before (setting_with L c.args.self) c.args.t _ f (grind (arith, c.is_empty.ensures, c.if-is_empty.false)) (c.upcoming_at-next.ensures.upcoming (trace_timed _ f) h.records))
+    ∙ sym (device_before (setting_with L c.args.self) c.args.t _ f (grind (arith, c.is_empty.ensures, c.if-is_empty.false)) (c.upcoming_at-next.ensures (trace_timed _ f) h.records))

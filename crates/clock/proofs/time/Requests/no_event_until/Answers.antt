@@ -13,7 +13,7 @@ returns-in-None c = λ L p.
     let one = c.before_stamp-until.ensures in
     let two = rw c.stamp.ensures at c.before_stamp-stamped.ensures in
     let three = rw c.record_stamp.ensures at c.before_stamp.ensures in
-    let lists = c.args.self.lists in (
+    let lists = p.tested in (
       no_event_by _ _ _ _ _ _ c.in-None.is (omega (arith, one.0, two.0, three.0)) lists.timed (trace_timed _ lists.traced) p.stamps p.records
           (λ b k. one.1 b (omega (arith, two.0, three.0))) (λ b k. two.1 b (omega (arith, three.0))) three.1,
       λ h. cc,
