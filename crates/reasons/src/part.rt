@@ -5,6 +5,10 @@ use text::text::{head, rest};
 pub fn from_line<'a>(sheet: &'a [u8], line: u64) -> &'a [u8] {
     let mut left = sheet;
     for _ in 1..line {
+        // Behind the sheet's end there is no line, however many are to be passed.
+        if left.is_empty() {
+            break;
+        }
         left = rest(left, b'\n');
     }
     left
