@@ -4,7 +4,6 @@ use console::print;
 use layout::sections::Layout;
 use script::command::Command;
 use script::line;
-use script::list::List;
 use script::world::World;
 use std::io;
 use std::io::Write;
@@ -17,25 +16,25 @@ fn show_put(out: &mut impl Write, done: Option<()>) -> io::Result<()> {
     }
 }
 
-// A command obeyed.
+// A command obeyed. What may fail is returned as it comes: each `?` would set room for a failure aside on every line, whatever its letter.
 fn obey(out: &mut impl Write, w: &mut World, command: Command<'_>) -> io::Result<()> {
     match command {
-        Command::NewWorld => *w = World::new(),
+        Command::NewWorld => w.clear(),
         Command::Layout(addresses) => w.layout = Layout::from(addresses),
         Command::Words { address, words } => w.put_words(address, words),
         Command::Bytes(n) => w.bytes = n,
-        Command::Stamps(stamps) => show_put(out, w.stamps.put(stamps))?,
-        Command::StampRow(row) => show_put(out, w.stamps.put_row(row))?,
-        Command::NoStamps => w.stamps = List::empty(),
-        Command::TraceStamps(stamps) => show_put(out, w.trace_stamps.put(stamps))?,
-        Command::TraceStampRow(row) => show_put(out, w.trace_stamps.put_row(row))?,
-        Command::TraceWords(words) => show_put(out, w.trace_words.put(words))?,
-        Command::TraceWordRow(row) => show_put(out, w.trace_words.put_row(row))?,
+        Command::Stamps(stamps) => return show_put(out, w.stamps.put(stamps)),
+        Command::StampRow(row) => return show_put(out, w.stamps.put_row(row)),
+        Command::NoStamps => w.stamps.clear(),
+        Command::TraceStamps(stamps) => return show_put(out, w.trace_stamps.put(stamps)),
+        Command::TraceStampRow(row) => return show_put(out, w.trace_stamps.put_row(row)),
+        Command::TraceWords(words) => return show_put(out, w.trace_words.put(words)),
+        Command::TraceWordRow(row) => return show_put(out, w.trace_words.put_row(row)),
         Command::NoTrace => w.clear_trace(),
         Command::Overwrite(part) => w.overwrite(part),
-        Command::Start => call::start(out, w)?,
-        Command::Step => call::step(out, w)?,
-        Command::Run { stop, budget } => call::run(out, w, stop, budget)?,
+        Command::Start => return call::start(out, w),
+        Command::Step => return call::step(out, w),
+        Command::Run { stop, budget } => return call::run(out, w, stop, budget),
     }
     Ok(())
 }

@@ -46,25 +46,31 @@ pub enum Part {
     Halted(bool),
 }
 
-// A number as a word.
-fn word(n: u64) -> Option<u16> {
+// A number as a word; none where it has more bits.
+fn as_word(n: u64) -> Option<u16> {
     u16::try_from(n).ok()
 }
 
-// A number as a byte.
-fn byte(n: u64) -> Option<u8> {
+// A number as a byte; none where it has more bits.
+fn as_byte(n: u64) -> Option<u8> {
     u8::try_from(n).ok()
 }
 
 // A number of one of the sixteen registers.
 fn register(n: u64) -> Option<u8> {
-    byte(n).filter(|r| *r < 16)
+    as_byte(n).filter(|r| *r < 16)
 }
 
 // Five words.
 fn layout(fields: [u64; 5]) -> Option<[u16; 5]> {
     let [a, b, c, d, e] = fields;
-    Some([word(a)?, word(b)?, word(c)?, word(d)?, word(e)?])
+    Some([
+        as_word(a)?,
+        as_word(b)?,
+        as_word(c)?,
+        as_word(d)?,
+        as_word(e)?,
+    ])
 }
 
 // A row by its three fields.
@@ -78,12 +84,12 @@ fn row_of(first: u64, step: u64, count: u64) -> Option<Row> {
 
 // A row of words: its low 16 bits are those of the numbers.
 fn word_row(first: u64, step: u64, count: u64) -> Option<Row> {
-    row_of(u64::from(word(first)?), u64::from(word(step)?), count)
+    row_of(u64::from(as_word(first)?), u64::from(as_word(step)?), count)
 }
 
 // One word at least.
 fn words(numbers: &[u64]) -> Option<&[u64]> {
-    if numbers.is_empty() || numbers.iter().any(|w| word(*w).is_none()) {
+    if numbers.is_empty() || numbers.iter().any(|w| as_word(*w).is_none()) {
         return None;
     }
     Some(numbers)
@@ -92,7 +98,7 @@ fn words(numbers: &[u64]) -> Option<&[u64]> {
 // An address and a word at least.
 fn words_at(address: u64, numbers: &[u64]) -> Option<Command<'_>> {
     Some(Command::Words {
-        address: word(address)?,
+        address: as_word(address)?,
         words: words(numbers)?,
     })
 }
@@ -110,17 +116,17 @@ impl Part {
     // The line's part; none where it names none, or has another number of fields or one that is too large.
     fn parse(line: &Line) -> Option<Part> {
         match (line.letter, line.fields()) {
-            (b'R', &[n, w]) => Some(Part::Register(register(n)?, word(w)?)),
-            (b'K', &[n, w]) => Some(Part::Saved(register(n)?, word(w)?)),
-            (b'P', &[a]) => Some(Part::Previous(word(a)?)),
+            (b'R', &[n, w]) => Some(Part::Register(register(n)?, as_word(w)?)),
+            (b'K', &[n, w]) => Some(Part::Saved(register(n)?, as_word(w)?)),
+            (b'P', &[a]) => Some(Part::Previous(as_word(a)?)),
             (b'C', &[n]) => Some(Part::Clock(n)),
             (b'Q', &[s]) => Some(Part::Slot(Some(s))),
             (b'q', []) => Some(Part::Slot(None)),
             (b'D', &[s]) => Some(Part::Alarm(Some(s))),
             (b'd', []) => Some(Part::Alarm(None)),
             (b'H', &[previous, age]) => Some(Part::Context(Some(SavedContext {
-                previous: word(previous)?,
-                age: byte(age)?,
+                previous: as_word(previous)?,
+                age: as_byte(age)?,
             }))),
             (b'h', []) => Some(Part::Context(None)),
             (b'Z', []) => Some(Part::Halted(true)),
@@ -158,7 +164,7 @@ impl<'a> Command<'a> {
                 budget,
             }),
             (b'G', &[budget, address]) => Some(Command::Run {
-                stop: StopAddress::At(word(address)?),
+                stop: StopAddress::At(as_word(address)?),
                 budget,
             }),
             _ => Some(Command::Overwrite(Part::parse(line)?)),

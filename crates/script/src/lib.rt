@@ -5,4 +5,5 @@ pub mod command;
 pub mod line;
 pub mod list;
 pub mod memory;
+pub mod words;
 pub mod world;

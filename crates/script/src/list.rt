@@ -2,12 +2,13 @@
 ghost use Rattle.std.specs.Prelude.{◌≡◌, ◌+◌, length, take, IfSome};
 
 use crate::command::Row;
+use crate::words::word;
 
 // Four numbers more than a timetable or a trace has.
 pub const LIST_ROOM: usize = 4100;
 
 // The first `count` of the numbers are lent. A count and no Vec: that takes an allocator along and may fail at each put.
-#[derive(Drop)]
+#[derive(Clone, Copy)]
 pub struct List {
     numbers: [u64; LIST_ROOM],
     count: usize,
@@ -22,6 +23,13 @@ impl List {
             numbers: [0; LIST_ROOM],
             count: 0,
         }
+    }
+
+    // No number again. What stands behind the count means nothing, so it stays.
+    pub fn clear(&mut self)
+        ensures { self.new.count ≡ 0 }
+    {
+        self.count = 0;
     }
 
     // Numbers behind the last; none where there is no room for all of them.
@@ -64,11 +72,11 @@ impl List {
         self.count
     }
 
-    // The low 16 bits of each number: the words of a trace.
+    // The low 16 bits of each number that was put there, and 0 behind them: the words of a trace.
     pub fn words(&self) -> [u16; LIST_ROOM] {
         let mut words = [0u16; LIST_ROOM];
-        for (word, number) in words.iter_mut().zip(&self.numbers) {
-            *word = (*number & 0xffff) as u16;
+        for (place, number) in words.iter_mut().zip(self.numbers.iter().take(self.count)) {
+            *place = word(*number);
         }
         words
     }

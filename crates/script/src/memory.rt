@@ -1,4 +1,5 @@
 // The bytes of the memory.
+use crate::words::word;
 use base::word::sum;
 use storage::memory::put_word;
 
@@ -6,7 +7,7 @@ use storage::memory::put_word;
 pub fn put_words(mem: &mut [u8], address: u16, words: &[u64]) {
     let mut a = address;
     for &w in words {
-        put_word(mem, a, (w & 0xffff) as u16);
+        put_word(mem, a, word(w));
         a = sum(a, 2);
     }
 }

@@ -1,4 +1,6 @@
 // What a call is given: the machine, the layout, the bytes of the memory, the stamps and the trace.
+ghost use Rattle.std.specs.Prelude.{◌≡◌, replicate};
+ghost use Rattle.base.specs.Limits.{memory_bytes};
 
 use crate::command::Part;
 use crate::list::List;
@@ -13,7 +15,7 @@ pub const WORLD_BYTES: usize = 65538;
 
 // The world of a call, which is lent the first `bytes` of the memory, and of each list the numbers that were put there. A count and no Vec: that
 // takes an allocator along and may fail at each put.
-#[derive(Drop)]
+#[derive(Clone, Copy)]
 pub struct World {
     pub state: State,
     pub layout: Layout,
@@ -40,18 +42,39 @@ fn zero_state() -> State {
     }
 }
 
+// The layout of document 01's sheet.
+fn sheet_layout() -> Layout {
+    Layout::from([0x8000, 0x8008, 0x8100, 0x8104, 0x4500])
+}
+
 impl World {
     // A new world: no byte but 0 in memory, the layout of document 01's sheet, no stamps, no records.
     pub fn new() -> World {
         World {
             state: zero_state(),
-            layout: Layout::from([0x8000, 0x8008, 0x8100, 0x8104, 0x4500]),
+            layout: sheet_layout(),
             memory: [0; WORLD_BYTES],
             bytes: MEMORY_BYTES,
             stamps: List::empty(),
             trace_stamps: List::empty(),
             trace_words: List::empty(),
         }
+    }
+
+    // A new world again, part by part in its place: were another built and moved here, each list would be written too.
+    pub fn clear(&mut self)
+        ensures no_byte { self.new.memory ≡ replicate 65538 0 }
+        ensures lent { self.new.bytes ≡ memory_bytes }
+        ensures no_stamps { self.new.stamps.count ≡ 0 }
+        ensures no_records { (self.new.trace_stamps.count ≡ 0) × (self.new.trace_words.count ≡ 0) }
+    {
+        self.state = zero_state();
+        self.layout = sheet_layout();
+        self.memory = [0; WORLD_BYTES];
+        self.bytes = MEMORY_BYTES;
+        self.stamps.clear();
+        self.trace_stamps.clear();
+        self.trace_words.clear();
     }
 
     // A part of the state overwritten.
@@ -81,8 +104,10 @@ impl World {
     }
 
     // An empty trace.
-    pub fn clear_trace(&mut self) {
-        self.trace_stamps = List::empty();
-        self.trace_words = List::empty();
+    pub fn clear_trace(&mut self)
+        ensures { (self.new.trace_stamps.count ≡ 0) × (self.new.trace_words.count ≡ 0) }
+    {
+        self.trace_stamps.clear();
+        self.trace_words.clear();
     }
 }
