@@ -3,8 +3,9 @@ ghost use Rattle.definition.specs.Setting.{trace_of};
 ghost use Rattle.lentpages.specs.Setup.{setup_room, SheetReturns};
 
 use base::limits::{MEMORY_BYTES, MOST_STAMPS};
-use loader::load::{load_memory, load_stamps, load_trace};
+use loader::load::{load_memory, load_stamps};
 use sheet::reader::read_sheet;
+use sheet::trace::load_setup_trace;
 
 // What a sheet sets up: memory, stamps and records with the count of each, layout, budget. A refusal alters only `line`, which tells its line.
 #[tactic(auto, using(base::proofs::Tests::choices, base::proofs::Refusals::number_not_zero), unfolding(base::specs::Kept::unless_refused))]
@@ -30,7 +31,7 @@ pub fn read_sheet_lent(
         Ok(setup) => {
             load_memory(mem, text);
             load_stamps(stamps, text);
-            load_trace(trace_stamps, trace_words, text);
+            load_setup_trace(setup, trace_stamps, trace_words, text);
             *layout = setup.layout.into();
             *count = setup.stamps as u64;
             *records = setup.records as u64;

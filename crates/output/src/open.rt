@@ -7,9 +7,10 @@ ghost use Rattle.output.specs.Open.{no_layout, run_room, OpenPromise};
 
 use base::limits::{MEMORY_BYTES, MOST_STAMPS};
 use layout::sections::{Layout, Span};
-use loader::load::{load_memory, load_stamps, load_trace};
+use loader::load::{load_memory, load_stamps};
 use machine::calls::Machine;
 use sheet::reader::read_sheet;
+use sheet::trace::load_setup_trace;
 use steplines::remaining::Remaining;
 use transcribe::progress::Transcript;
 
@@ -67,7 +68,7 @@ pub fn open_sheet(
         Ok(setup) => {
             load_memory(mem, text);
             load_stamps(stamps, text);
-            load_trace(trace_stamps, trace_words, text);
+            load_setup_trace(setup, trace_stamps, trace_words, text);
             SheetRun {
                 layout: setup.layout,
                 stamps: setup.stamps,

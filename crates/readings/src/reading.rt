@@ -5,9 +5,10 @@ use base::refusal::SheetRefusal;
 use clock::trace::Trace;
 use console::print;
 use definition::stop_address::StopAddress;
-use loader::load::{load_memory, load_stamps, load_trace};
+use loader::load::{load_memory, load_stamps};
 use machine::calls::Machine;
 use sheet::reader::{Setup, read_sheet};
+use sheet::trace::load_setup_trace;
 use std::io;
 use std::io::Write;
 use text::text::{head, rest};
@@ -60,7 +61,7 @@ fn last_line(out: &mut [u8], text: &[u8], room: &mut Room) -> usize {
         Ok(setup) => {
             load_memory(&mut room.mem, text);
             load_stamps(&mut room.stamps, text);
-            load_trace(&mut room.trace_stamps, &mut room.trace_words, text);
+            load_setup_trace(setup, &mut room.trace_stamps, &mut room.trace_words, text);
             run_line(out, setup, room)
         }
     }

@@ -1,7 +1,8 @@
 -- What a sheet sets up, the machine takes. Assumes nothing.
-use Rattle.std.proofs.Common.{ℕ, ◌+◌, ◌≤◌, ◌≡◌, refl, true, List, [], ◌∷◌, Option, None, Some, Ok, Err, Continue, Break, leb, length, arith}
+use Rattle.std.proofs.Common.{ℕ, ◌+◌, ◌≤◌, ◌≡◌, refl, sym, ◌∙◌, true, List, [], ◌∷◌, Option, None, Some, Ok, Err, Continue, Break, leb, length, arith}
 use Rattle.std.specs.declared.ops.ControlFlow.{ControlFlow}
 use Rattle.std.proofs.lemmas.Bool.Decides.{nat_tests}
+use Rattle.std.proofs.lemmas.List.{nil_from_length}
 use Rattle.base.specs.Test.{when◌then◌else◌, all}
 use Rattle.base.specs.declared.refusal.Refusal.TheVariants.{Timetable, Trace as TraceRefusal}
 use Rattle.base.proofs.Tests.{choose, choices}
@@ -165,3 +166,17 @@ unfolding ReadIsRunnable sheet_answer sheet_stamps sheet_trace
 read_is_runnable sheet =
     choose (ReadRunnable (stamps_from (pieces sheet)) (trace_from (pieces sheet))) (leb (length sheet) most_sheet_bytes)
     (λ e. lines_runnable (pieces sheet)) (λ e. refused_runnable _ _ _)
+
+-- ---- a sheet without a record
+
+module _ (sheet : List ℕ) (setup : Setup) (e : sheet_answer sheet ≡ Ok setup) (n : setup.records ≡ 0) where
+  no_trace_length : length (sheet_trace sheet).stamps ≡ 0
+  unfolding ReadIsRunnable
+  no_trace_length = let r = (read_is_runnable sheet setup e).records_counted in omega arith
+
+  pub no_trace_stamps : (sheet_trace sheet).stamps ≡ []
+  no_trace_stamps = nil_from_length _ no_trace_length
+
+  pub no_trace_words : (sheet_trace sheet).words ≡ []
+  unfolding sheet_trace
+  no_trace_words = nil_from_length _ (sym (paired (pieces sheet)) ∙ no_trace_length)

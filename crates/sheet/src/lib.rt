@@ -3,3 +3,4 @@
 
 pub mod laws;
 pub mod reader;
+pub mod trace;

@@ -8,5 +8,6 @@ returns-in-Err c =
 
 pub returns-in-Ok : goal.returns-in-Ok
 returns-in-Ok c =
-    opened_read _ _ c.in-Ok.setup (sym c.in-Ok.is ∙ c.read_sheet.ensures.result) _ c.load_memory.ensures.loaded c.load_stamps.ensures
-    c.load_trace.ensures.stamps c.load_trace.ensures.words (sym c.load_memory.ensures.size) (omega arith) (omega arith) (omega arith) _ c.unwritten-in-Ok.ensures
+    let read = sym c.in-Ok.is ∙ c.read_sheet.ensures.result in
+    opened_read _ _ c.in-Ok.setup read _ c.load_memory.ensures.loaded c.load_stamps.ensures
+    (c.load_setup_trace.ensures.stamps (sym read)) (c.load_setup_trace.ensures.words (sym read)) (sym c.load_memory.ensures.size) (omega arith) (omega arith) (omega arith) _ c.unwritten-in-Ok.ensures
