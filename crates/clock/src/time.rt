@@ -149,9 +149,10 @@ fn upcoming_at(stamps: &[u64], from: usize, clock: u64) -> usize
     from + count_passed(&stamps[from..], clock)
 }
 
-// The requests of a run's lists, with an index in each: that of the upcoming stamp, where the clock has passed those before it. The layout goes beside them and
-// in no struct with them: what takes one of the two promises its result for every value of the other (docs/DECISIONS.md, *One record for what stays
-// fixed*). The clock that they are at is no field: the waits of one step look from the same indices at several clock values.
+// The requests of a run's lists, with an index in each, from which the upcoming stamp is looked for: promises are made where the clock has passed the
+// stamps before it (`HasPassed`). The layout goes beside them and in no struct with them: what takes one of the two promises its result for every value
+// of the other (docs/DECISIONS.md, *One record for what stays fixed*). The clock that they are at is no field: the waits of one step look from the same
+// indices at several clock values.
 #[derive(Clone, Copy)]
 pub struct Requests<'a> {
     pub lists: RequestLists<'a>,

@@ -8,12 +8,12 @@ const MOST_FIELDS: usize = 8;
 const MOST_DIGITS: usize = 16;
 
 // The letter, and the fields: the first `count` of the numbers. A count and no Vec: that takes an
-// allocator along and may fail at each field.
+// allocator along and may fail at each field. The letter comes last: in front, it sets the numbers off by a byte wherever a line is moved.
 #[derive(Clone, Copy)]
 pub struct Line {
-    pub letter: u8,
     numbers: [u64; MOST_FIELDS],
     count: usize,
+    pub letter: u8,
     ghost fits: { count ≤ 8 },
 }
 

@@ -1,6 +1,7 @@
 // What a call is given: the machine, the layout, the bytes of the memory, the stamps and the trace.
 ghost use Rattle.std.specs.Prelude.{◌≡◌, replicate};
 ghost use Rattle.base.specs.Limits.{memory_bytes};
+ghost use Rattle.script.specs.World.{zero_state, sheet_layout};
 
 use crate::command::Part;
 use crate::list::List;
@@ -27,7 +28,9 @@ pub struct World {
 }
 
 // Nothing but 0 in the state, and the previous address FFFE.
-fn zero_state() -> State {
+fn zero_state() -> State
+    ensures { result ≡ zero_state }
+{
     State {
         registers: [0; 16],
         previous: 0xfffe,
@@ -43,13 +46,22 @@ fn zero_state() -> State {
 }
 
 // The layout of document 01's sheet.
-fn sheet_layout() -> Layout {
+fn sheet_layout() -> Layout
+    ensures { result ≡ sheet_layout }
+{
     Layout::from([0x8000, 0x8008, 0x8100, 0x8104, 0x4500])
 }
 
 impl World {
     // A new world: no byte but 0 in memory, the layout of document 01's sheet, no stamps, no records.
-    pub fn new() -> World {
+    pub fn new() -> World
+        ensures state { result.state ≡ zero_state }
+        ensures layout { result.layout ≡ sheet_layout }
+        ensures no_byte { result.memory ≡ replicate 65538 0 }
+        ensures lent { result.bytes ≡ memory_bytes }
+        ensures no_stamps { result.stamps.count ≡ 0 }
+        ensures no_records { (result.trace_stamps.count ≡ 0) × (result.trace_words.count ≡ 0) }
+    {
         World {
             state: zero_state(),
             layout: sheet_layout(),
@@ -63,6 +75,8 @@ impl World {
 
     // A new world again, part by part in its place: were another built and moved here, each list would be written too.
     pub fn clear(&mut self)
+        ensures state { self.new.state ≡ zero_state }
+        ensures layout { self.new.layout ≡ sheet_layout }
         ensures no_byte { self.new.memory ≡ replicate 65538 0 }
         ensures lent { self.new.bytes ≡ memory_bytes }
         ensures no_stamps { self.new.stamps.count ≡ 0 }
