@@ -27,7 +27,8 @@ impl List {
 
     // No number again. What stands behind the count means nothing, so it stays.
     pub fn clear(&mut self)
-        ensures { self.new.count ≡ 0 }
+        ensures empty { self.new.count ≡ 0 }
+        ensures kept { self.new.numbers ≡ self.old.numbers }
     {
         self.count = 0;
     }

@@ -87,8 +87,7 @@ impl World {
         self.memory = [0; WORLD_BYTES];
         self.bytes = MEMORY_BYTES;
         self.stamps.clear();
-        self.trace_stamps.clear();
-        self.trace_words.clear();
+        self.clear_trace();
     }
 
     // A part of the state overwritten.
@@ -119,7 +118,10 @@ impl World {
 
     // An empty trace.
     pub fn clear_trace(&mut self)
-        ensures { (self.new.trace_stamps.count ≡ 0) × (self.new.trace_words.count ≡ 0) }
+        ensures no_records { (self.new.trace_stamps.count ≡ 0) × (self.new.trace_words.count ≡ 0) }
+        ensures machine { (self.new.state ≡ self.old.state) × (self.new.layout ≡ self.old.layout) }
+        ensures bytes { (self.new.memory ≡ self.old.memory) × (self.new.bytes ≡ self.old.bytes) }
+        ensures stamps { self.new.stamps ≡ self.old.stamps }
     {
         self.trace_stamps.clear();
         self.trace_words.clear();

@@ -4,7 +4,7 @@ ghost use Rattle.std.specs.Prelude.{ℕ, ◌-◌, ◌≤◌, ◌≡◌, List, le
 ghost use Rattle.base.specs.Verdict.{verdict, unrefused};
 ghost use Rattle.definition.specs.Setting.{Setting, setting_of};
 ghost use Rattle.definition.specs.Calls.{transcript_tests};
-ghost use Rattle.steplines.specs.declared.remaining.Remaining.TheVariants.{RefusalLine as REFUSAL, Header as HEADER};
+ghost use Rattle.steplines.specs.declared.remaining.Remaining.TheVariants.{RefusalLine as REFUSAL};
 ghost use Rattle.steplines.specs.Page.{page_from};
 ghost use Rattle.clock.specs.Trace.{lent_trace};
 ghost use Rattle.clock.specs.Requests.{setting_by, Tested};
